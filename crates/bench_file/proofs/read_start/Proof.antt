@@ -1,0 +1,51 @@
+-- `bench_file::read_start` meets its contract: mark and version are two fields, each cut off or judged by its rule. Assumes nothing.
+use mathlib.Core.Path.{sym, _∙_}
+use borrow.Author.Needs.{needs}
+use borrow.Author.Tests.{eq-eqb, ne-eqb, not-true, not-false}
+use Rattle.bench_file.specs.Layout.{startReader}
+use Rattle.bench_file.proofs.Reading.{field-whole, field-cut, field-at, field-cut-at}
+use Rattle.bench_file.proofs.read_start.Statement.{statement}
+use Rattle.bench_file.proofs.read_start.Tie as tie
+
+returns : tie.Need-returns
+unfolding startReader
+returns c = simp (field-cut 3 (c .before .before .args .s .now) (c .if1 .taken))
+
+is-mark-requires : tie.Need-is-mark-requires
+is-mark-requires c κs = search needs
+
+returns-2 : tie.Need-returns-2
+unfolding startReader
+returns-2 c =
+    let e = c .before .before in
+    simp (field-whole 3 (e .before .before .args .s .now) (e .if1 .left), sym (c .before .is-mark .ensures) ∙ not-true _ (c .if2 .taken))
+
+returns-3 : tie.Need-returns-3
+unfolding startReader
+returns-3 c =
+    let e = c .before .before .before in
+    let s = e .before .before .args .s .now in
+    simp (field-whole 3 s (e .if1 .left), sym (c .before .before .is-mark .ensures) ∙ not-false _ (c .before .if2 .left), field-cut-at s 3 2 (e .if1 .left) (c .if3 .taken))
+
+number2-requires : tie.Need-number2-requires
+number2-requires c κs = search needs
+
+returns-4 : tie.Need-returns-4
+unfolding startReader
+returns-4 c =
+    let d = c .before .before .before in
+    let e = d .before .before in
+    let s = e .before .before .args .s .now in
+    simp (field-whole 3 s (e .if1 .left), sym (d .before .is-mark .ensures) ∙ not-false _ (d .if2 .left), field-at s 3 2 (c .before .before .if3 .left), ne-eqb _ _ (λ z. c .if4 .taken (c .before .number2 .ensures .0 ∙ z)))
+
+returns-5 : tie.Need-returns-5
+unfolding startReader
+returns-5 c =
+    let d = c .before .before .before in
+    let e = d .before .before in
+    let s = e .before .before .args .s .now in
+    simp (field-whole 3 s (e .if1 .left), sym (d .before .is-mark .ensures) ∙ not-false _ (d .if2 .left), field-at s 3 2 (c .before .before .if3 .left), eq-eqb _ _ (sym (c .before .number2 .ensures .0) ∙ c .if4 .left))
+
+pub read-start-spec : {M : Type 1} → statement M
+read-start-spec =
+    tie.close (tie.spec returns is-mark-requires returns-2 returns-3 number2-requires returns-4 returns-5)

@@ -1,0 +1,57 @@
+-- What the code's answers mean as outcomes of a reader: a place in the file stands for the bytes from there on.
+use Prim.Native.Nat.{ℕ, _+_, _≤_}
+use mathlib.Core.Bool.{cond}
+use mathlib.Core.List.{List, [], _∷_}
+use lib.ListN.{length, drop}
+use lib.Dec.{eqb}
+use Rattle.bench_file.specs.declared.Head.{Head}
+use Rattle.bench_file.specs.declared.ByteRead.{ByteRead}
+use Rattle.bench_file.specs.declared.ByteRead.the-variants as ByteRead
+use Rattle.bench_file.specs.declared.HeadRead.{HeadRead}
+use Rattle.bench_file.specs.declared.HeadRead.the-variants as HeadRead
+use Rattle.bench_file.specs.declared.Reached.{Reached}
+use Rattle.bench_file.specs.declared.Reached.the-variants as Reached
+use Rattle.bench_file.specs.declared.Judged.{Judged}
+use Rattle.bench_file.specs.declared.Judged.the-variants as Judged
+use Rattle.bench_file.specs.Layout.{Judgement, accepted, refusedBy}
+use Rattle.bench_file.specs.Reading.{Outcome, refused, read}
+
+-- a refusal's number, or 0 and the place where reading goes on
+abbrev pub numberRead : List ℕ → ℕ → ℕ → Outcome Unit
+numberRead bytes next refusal = cond (eqb refusal 0) (read tt (drop next bytes)) (refused refusal)
+
+-- the byte at a place
+abbrev pub byteRead : List ℕ → ℕ → ByteRead → Outcome ℕ
+byteRead bytes at (ByteRead.Byte b) = read b (drop (at + 1) bytes)
+byteRead bytes at (ByteRead.Refused refusal) = refused refusal
+
+abbrev pub headRead : List ℕ → HeadRead → Outcome Head
+headRead bytes (HeadRead.Whole head) = read head (drop 9 bytes)
+headRead bytes (HeadRead.Refused refusal) = refused refusal
+
+-- how many requests or entries were read, and the place behind them
+abbrev pub reached : List ℕ → Reached → Outcome ℕ
+reached bytes (Reached.At next count) = read count (drop next bytes)
+reached bytes (Reached.Refused refusal) = refused refusal
+
+-- a place that was reached lies within the bytes, and each thing counted took a byte or more
+abbrev pub Ahead : List ℕ → ℕ → Reached → Type 0
+Ahead bytes at (Reached.At next count) = (at + count ≤ next) × (next ≤ length bytes)
+Ahead bytes at (Reached.Refused refusal) = Unit
+
+-- an outcome of which only a number is kept
+abbrev pub tallied : {A : Type 0} → (A → ℕ) → Outcome A → Outcome ℕ
+tallied tally (refused refusal) = refused refusal
+tallied tally (read a rest) = read (tally a) rest
+
+unfoldable pub sumOver : {A : Type 0} → (A → ℕ) → List A → ℕ
+sumOver tally [] = 0
+sumOver tally (a ∷ l) = tally a + sumOver tally l
+
+abbrev pub one : {A : Type 0} → A → ℕ
+one a = 1
+
+-- the answer of `judge`: the head, how many requests in all and how many entries, or the refusal
+abbrev pub judgedAs : Judgement → Judged
+judgedAs (accepted f) = Judged.Accepted (f .head) (sumOver length (f .rows)) (length (f .schedule))
+judgedAs (refusedBy refusal) = Judged.Refused refusal

@@ -1,0 +1,86 @@
+-- The bench file, version 1: its fields, and what a list of bytes is judged to be, front to back.
+use Prim.Native.Nat.{ℕ, _-_}
+use mathlib.Core.Bool.{Bool, true, false, _&&_}
+use mathlib.Core.List.{List, [], _∷_}
+use lib.ListN.{getD}
+use lib.Dec.{leb, eqb}
+use Rattle.object.specs.declared.Kind.{Kind}
+use Rattle.object.specs.declared.Request.{Request}
+use Rattle.object.specs.Paper.{kindOf, requestOf, leastCode, mostCode, valueAllowed, leastCapacity, mostCapacity}
+use Rattle.bench_file.specs.declared.Head.{Head}
+use Rattle.bench_file.specs.Reading.{Outcome, refused, read, Reader, after, _>>=_, _>>_, done, rule, field, number, byte, ranged, several, end}
+
+-- the fields of a bench file: object, n, h and capacity; a row of requests for each thread; the thread of each schedule entry
+pub record Fields : Type 0 where
+  pub head : Head
+  pub rows : List (List Request)
+  pub schedule : List ℕ
+
+-- the mark, `43 43 53`, is one field
+abbrev pub isMark : List ℕ → Bool
+isMark bs = eqb (getD bs 0 0) 0x43 && eqb (getD bs 1 0) 0x43 && eqb (getD bs 2 0) 0x53
+
+-- bytes 0 to 4: mark and version
+unfoldable pub startReader : Reader Unit
+startReader = do
+  mark ← field 3
+  rule 2 (isMark mark)
+  version ← number 2
+  rule 3 (eqb version 1)
+
+-- bytes 6 to 8: n, h and the capacity
+unfoldable pub limitsReader : Kind → Reader Head
+limitsReader object = do
+  n ← ranged 5 1 16
+  h ← ranged 6 1 255
+  capacity ← ranged 7 (leastCapacity object) (mostCapacity object)
+  done (record { object = object; n = n; h = h; capacity = capacity })
+
+-- bytes 0 to 8
+unfoldable pub headReader : Reader Head
+headReader = do
+  startReader
+  object ← ranged 4 0 2
+  limitsReader (kindOf object)
+
+-- a request is two fields, code and value
+unfoldable pub requestReader : Kind → Reader Request
+requestReader object = do
+  code ← ranged 9 (leastCode object) (mostCode object)
+  value ← number 4
+  rule 9 (valueAllowed code value)
+  done (requestOf code value)
+
+-- a thread's count and its requests
+unfoldable pub rowReader : Kind → Reader (List Request)
+rowReader object = do
+  count ← ranged 8 0 16
+  several count (requestReader object)
+
+-- the schedule's length and its entries, each a field of its own and below n
+unfoldable pub scheduleReader : ℕ → Reader (List ℕ)
+scheduleReader n = do
+  length ← number 2
+  rule 10 (leb length 32768)
+  several length (ranged 11 0 (n - 1))
+
+-- each field in its place; at each, 1 comes before the field's own rule
+unfoldable pub fileReader : Reader Fields
+fileReader = do
+  head ← headReader
+  rows ← several (head .n) (rowReader (head .object))
+  schedule ← scheduleReader (head .n)
+  end
+  done (record { head = head; rows = rows; schedule = schedule })
+
+-- a file is accepted with its fields, or refused with a number
+pub data Judgement : Type 0 where
+  accepted : Fields → Judgement
+  refusedBy : ℕ → Judgement
+
+abbrev pub judged : Outcome Fields → Judgement
+judged (refused refusal) = refusedBy refusal
+judged (read fields rest) = accepted fields
+
+unfoldable pub judgeOf : List ℕ → Judgement
+judgeOf bytes = judged (fileReader bytes)

@@ -1,0 +1,4 @@
+pub mod Bytes
+pub mod Cursor
+pub mod Layout
+pub mod Reading

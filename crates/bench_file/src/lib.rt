@@ -1,0 +1,233 @@
+// Bench files: judged front to back, and written from their fields.
+use object::Kind;
+
+ghost use mathlib.Core.Path.{_≡_};
+ghost use Prim.Native.Nat.{_+_, _≤_, _<_};
+ghost use lib.ListN.{length, take, drop};
+ghost use Rattle.bench_file.specs.Reading.{littleEndian, ranged, several};
+ghost use Rattle.bench_file.specs.Layout.{isMark, startReader, limitsReader, headReader, requestReader, rowReader, scheduleReader, judgeOf};
+ghost use Rattle.bench_file.specs.Cursor.{numberRead, byteRead, headRead, reached, Ahead, tallied, sumOver, one, judgedAs};
+
+// Bytes 5 to 8 of a bench file.
+pub struct Head {
+    pub object: Kind,
+    pub n: u8,
+    pub h: u8,
+    pub capacity: u8,
+}
+
+// A field of one byte, or the refusal.
+pub enum ByteRead {
+    Byte(u8),
+    Refused(u8),
+}
+
+// Bytes 0 to 8, or the refusal.
+pub enum HeadRead {
+    Whole(Head),
+    Refused(u8),
+}
+
+// The place behind what was read, and how many requests or entries it held; or the refusal.
+pub enum Reached {
+    At { next: usize, count: usize },
+    Refused(u8),
+}
+
+// What a bench file is judged to be: its head, how many requests in all, how many schedule entries; or the refusal.
+pub enum Judged {
+    Accepted {
+        head: Head,
+        requests: usize,
+        entries: usize,
+    },
+    Refused(u8),
+}
+
+// The field of one byte at a place: 1 where it is cut off, the given refusal where it is outside its range.
+fn byte_in(s: &[u8], at: usize, refusal: u8, least: u8, most: u8) -> ByteRead
+    ensures { λ r. ⌜ byteRead (now (s .entry)) at r ≡ ranged refusal least most (drop at (now (s .entry))) ⌝ }
+{
+    if s.len() <= at {
+        return ByteRead::Refused(1);
+    }
+    let b = s[at];
+    if object::between(least, b, most) {
+        return ByteRead::Byte(b);
+    }
+    ByteRead::Refused(refusal)
+}
+
+fn wide(x: u8) -> u32
+    ensures { λ r. ⌜ (r ≡ x) × (r < 256) ⌝ }
+{
+    x as u32
+}
+
+// The number of two bytes at a place.
+fn number2(s: &[u8], at: usize) -> u32
+    requires { ⌜ at + 2 ≤ length (now s) ⌝ }
+    ensures { λ r. ⌜ (r ≡ littleEndian (take 2 (drop at (now (s .entry))))) × (r < 65536) ⌝ }
+{
+    wide(s[at]) + 256 * wide(s[at + 1])
+}
+
+// The number of four bytes at a place.
+fn number4(s: &[u8], at: usize) -> u32
+    requires { ⌜ at + 4 ≤ length (now s) ⌝ }
+    ensures { λ r. ⌜ r ≡ littleEndian (take 4 (drop at (now (s .entry)))) ⌝ }
+{
+    number2(s, at) + 65536 * number2(s, at + 2)
+}
+
+fn is_mark(s: &[u8]) -> bool
+    requires { ⌜ 3 ≤ length (now s) ⌝ }
+    ensures { λ r. ⌜ r ≡ isMark (take 3 (now (s .entry))) ⌝ }
+{
+    if s[0] != 0x43 {
+        return false;
+    }
+    if s[1] != 0x43 {
+        return false;
+    }
+    s[2] == 0x53
+}
+
+// Mark and version: 0, or the refusal.
+fn read_start(s: &[u8]) -> u8
+    ensures { λ r. ⌜ numberRead (now (s .entry)) 5 r ≡ startReader (now (s .entry)) ⌝ }
+{
+    if s.len() < 3 {
+        return 1;
+    }
+    if !is_mark(s) {
+        return 2;
+    }
+    if s.len() < 5 {
+        return 1;
+    }
+    if number2(s, 3) != 1 {
+        return 3;
+    }
+    0
+}
+
+// Bytes 6 to 8, behind an object byte that is in range.
+fn read_limits(s: &[u8], object: Kind) -> HeadRead
+    ensures { λ r. ⌜ headRead (now (s .entry)) r ≡ limitsReader object (drop 6 (now (s .entry))) ⌝ }
+{
+    let n = match byte_in(s, 6, 5, 1, 16) {
+        ByteRead::Byte(b) => b,
+        ByteRead::Refused(refusal) => {
+            return HeadRead::Refused(refusal);
+        }
+    };
+    let h = match byte_in(s, 7, 6, 1, 255) {
+        ByteRead::Byte(b) => b,
+        ByteRead::Refused(refusal) => {
+            return HeadRead::Refused(refusal);
+        }
+    };
+    let least = object::least_capacity(object);
+    let most = object::most_capacity(object);
+    match byte_in(s, 8, 7, least, most) {
+        ByteRead::Byte(capacity) => HeadRead::Whole(Head { object, n, h, capacity }),
+        ByteRead::Refused(refusal) => HeadRead::Refused(refusal),
+    }
+}
+
+// Bytes 0 to 8.
+fn read_head(s: &[u8]) -> HeadRead
+    ensures { λ r. ⌜ headRead (now (s .entry)) r ≡ headReader (now (s .entry)) ⌝ }
+{
+    let start = read_start(s);
+    if start != 0 {
+        return HeadRead::Refused(start);
+    }
+    match byte_in(s, 5, 4, 0, 2) {
+        ByteRead::Byte(b) => read_limits(s, object::kind_of(b)),
+        ByteRead::Refused(refusal) => HeadRead::Refused(refusal),
+    }
+}
+
+// A request: code and value.
+fn read_request(s: &[u8], at: usize, object: Kind) -> Reached
+    ensures { λ r. ⌜ reached (now (s .entry)) r ≡ tallied one (requestReader object (drop at (now (s .entry)))) ⌝ }
+    ensures { λ r. ⌜ Ahead (now (s .entry)) at r ⌝ }
+{
+    let least = object::least_code(object);
+    let most = object::most_code(object);
+    let code = match byte_in(s, at, 9, least, most) {
+        ByteRead::Byte(b) => b,
+        ByteRead::Refused(refusal) => {
+            return Reached::Refused(refusal);
+        }
+    };
+    if s.len() - at < 5 {
+        return Reached::Refused(1);
+    }
+    let value = number4(s, at + 1);
+    if object::value_allowed(code, value) {
+        return Reached::At { next: at + 5, count: 1 };
+    }
+    Reached::Refused(9)
+}
+
+// So many requests.
+fn read_requests(s: &[u8], at: usize, object: Kind, count: u8) -> Reached
+    requires { ⌜ at ≤ length (now s) ⌝ }
+    ensures { λ r. ⌜ reached (now (s .entry)) r ≡ tallied (sumOver one) (several count (requestReader object) (drop at (now (s .entry)))) ⌝ }
+    ensures { λ r. ⌜ Ahead (now (s .entry)) at r ⌝ }
+{
+    let mut next = at;
+    let mut done = 0usize;
+    let mut i = 0u8;
+    while i < count {
+        match read_request(s, next, object) {
+            Reached::At { next: after, count: more } => {
+                next = after;
+                done += more;
+            }
+            Reached::Refused(refusal) => {
+                return Reached::Refused(refusal);
+            }
+        }
+        i += 1;
+    }
+    Reached::At { next, count: done }
+}
+
+// A thread's count and its requests.
+fn read_row(s: &[u8], at: usize, object: Kind) -> Reached
+    ensures { λ r. ⌜ reached (now (s .entry)) r ≡ tallied length (rowReader object (drop at (now (s .entry)))) ⌝ }
+    ensures { λ r. ⌜ Ahead (now (s .entry)) at r ⌝ }
+{
+    match byte_in(s, at, 8, 0, 16) {
+        ByteRead::Byte(count) => read_requests(s, at + 1, object, count),
+        ByteRead::Refused(refusal) => Reached::Refused(refusal),
+    }
+}
+
+// The rows of n threads.
+fn read_rows(s: &[u8], at: usize, object: Kind, n: u8) -> Reached
+    requires { ⌜ at ≤ length (now s) ⌝ }
+    ensures { λ r. ⌜ reached (now (s .entry)) r ≡ tallied (sumOver length) (several n (rowReader object) (drop at (now (s .entry)))) ⌝ }
+    ensures { λ r. ⌜ Ahead (now (s .entry)) at r ⌝ }
+{
+    let mut next = at;
+    let mut done = 0usize;
+    let mut i = 0u8;
+    while i < n {
+        match read_row(s, next, object) {
+            Reached::At { next: after, count: more } => {
+                next = after;
+                done += more;
+            }
+            Reached::Refused(refusal) => {
+                return Reached::Refused(refusal);
+            }
+        }
+        i += 1;
+    }
+    Reached::At { next, count: done }
+}
