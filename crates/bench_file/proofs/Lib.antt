@@ -1,3 +1,4 @@
+pub mod Judging
 pub mod Reading
 pub mod Request
 pub mod Turns

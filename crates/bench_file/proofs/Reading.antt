@@ -1,6 +1,7 @@
 -- Laws of the readers of specs/Reading.antt at a place of a file: what a field finds there. Assumes nothing.
 use Prim.Native.Nat.{ℕ, zero, suc, _+_, _*_, _≤_, _<_, _^_, suc-le-suc}
 use native.Mathlib.Nat.{le-of-suc-le-suc, not-suc-le-zero, add-assoc}
+use native.Mathlib.Decide.{decLe}
 use native.Mathlib.Numerals.{add-one}
 use native.Mathlib.Omega.{arith}
 use mathlib.Core.Path.{_≡_, refl, sym, ap, _∙_}
@@ -12,7 +13,8 @@ use lib.Dec.{eqb}
 use borrow.Author.Tests.{eq-eqb, ne-eqb}
 use Rattle.object.specs.Paper.{within}
 use Rattle.bench_file.specs.Layout.{isMark}
-use Rattle.bench_file.specs.Cursor.{numberRead, byteRead}
+use Rattle.bench_file.specs.Cursor.{numberRead, byteRead, reached}
+use Rattle.bench_file.specs.declared.Reached.{Reached}
 use Rattle.bench_file.specs.declared.ByteRead.{ByteRead}
 use Rattle.bench_file.specs.Reading.{Outcome, refused, read, Reader, after, rule, field, littleEndian, number, byte, ranged, several}
 
@@ -73,6 +75,13 @@ module _ (s : List ℕ) (at : ℕ) where
   unfolding ranged
   ranged-out refusal least most h e = after-read _ (byte-at h) ∙ rule-broken refusal (drop (at + 1) s) _ e
 
+-- a byte that was read lies within the bytes
+pub inside : (s : List ℕ) (at refusal least most : ℕ) {b : ℕ} {rest : List ℕ} → ranged refusal least most (drop at s) ≡ read b rest → at < length s
+inside s at refusal least most {b} {rest} e =
+    elim (decLe (length s) at)
+    [ yes h ↦ let z : _≡_ {A = ℕ} 0 1 = cc (ranged-cut s at refusal least most h) in absurd (omega arith)
+    | no h ↦ omega arith ]
+
 -- the numbers of two and of four bytes at a place
 module _ (s : List ℕ) (at : ℕ) where
   two-cons : at + 2 ≤ length s → drop at s ≡ getD s at 0 ∷ getD s (at + 1) 0 ∷ drop (at + 2) s
@@ -105,3 +114,7 @@ stopped s next e z = sym e ∙ rw (ne-eqb _ _ z)
 -- what a byte that was read, or refused, says of the outcome that it stands for
 pub byte-was : (s : List ℕ) (at : ℕ) {r x : ByteRead} {o : Outcome ℕ} → byteRead s at r ≡ o → r ≡ x → o ≡ byteRead s at x
 byte-was s at e t = sym e ∙ rw t
+
+-- the same of a place that was reached
+pub reached-was : (s : List ℕ) {r x : Reached} {o : Outcome ℕ} → reached s r ≡ o → r ≡ x → o ≡ reached s x
+reached-was s e t = sym e ∙ rw t

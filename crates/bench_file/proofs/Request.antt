@@ -1,7 +1,6 @@
 -- A request at a place, behind a code that its object knows: laws of `requestReader`. Assumes nothing.
 use Prim.Native.Nat.{ℕ, _+_, _≤_, _<_}
-use native.Mathlib.Nat.{add-assoc, lt-irrefl, lt-of-lt-of-le}
-use native.Mathlib.Decide.{decLe}
+use native.Mathlib.Nat.{add-assoc}
 use native.Mathlib.Omega.{arith}
 use mathlib.Core.Path.{_≡_, refl, sym, ap, _∙_}
 use mathlib.Core.Bool.{true, false}
@@ -11,14 +10,7 @@ use Rattle.object.specs.declared.Kind.{Kind}
 use Rattle.object.specs.Paper.{requestOf, leastCode, mostCode, valueAllowed}
 use Rattle.bench_file.specs.Reading.{Outcome, refused, read, littleEndian, ranged}
 use Rattle.bench_file.specs.Layout.{requestReader}
-use Rattle.bench_file.proofs.Reading.{field-at, field-cut-at, ranged-cut}
-
--- a byte that was read lies within the bytes
-pub inside : (s : List ℕ) (at refusal least most : ℕ) {b : ℕ} {rest : List ℕ} → ranged refusal least most (drop at s) ≡ read b rest → at < length s
-inside s at refusal least most {b} {rest} e =
-    elim (decLe (length s) at)
-    [ yes h ↦ let z : _≡_ {A = ℕ} 0 1 = cc (ranged-cut s at refusal least most h) in absurd (omega arith)
-    | no h ↦ omega arith ]
+use Rattle.bench_file.proofs.Reading.{field-at, field-cut-at}
 
 module _ (s : List ℕ) (at : ℕ) (object : Kind) {code : ℕ} (e : ranged 9 (leastCode object) (mostCode object) (drop at s) ≡ read code (drop (at + 1) s)) where
   pub request-cut : at < length s → length s < at + 5 → requestReader object (drop at s) ≡ refused 1

@@ -13,7 +13,7 @@ use Rattle.bench_file.specs.declared.Reached.{Reached}
 use Rattle.bench_file.specs.declared.Reached.the-variants as Reached
 use Rattle.bench_file.specs.declared.Judged.{Judged}
 use Rattle.bench_file.specs.declared.Judged.the-variants as Judged
-use Rattle.bench_file.specs.Layout.{Judgement, accepted, refusedBy}
+use Rattle.bench_file.specs.Layout.{Judgement, accepted, refusedBy, scheduleReader}
 use Rattle.bench_file.specs.Reading.{Outcome, refused, read}
 
 -- a refusal's number, or 0 and the place where reading goes on
@@ -28,6 +28,11 @@ byteRead bytes at (ByteRead.Refused refusal) = refused refusal
 abbrev pub headRead : List ℕ → HeadRead → Outcome Head
 headRead bytes (HeadRead.Whole head) = read head (drop 9 bytes)
 headRead bytes (HeadRead.Refused refusal) = refused refusal
+
+-- a head that was read lies within the bytes
+abbrev pub HeadInside : List ℕ → HeadRead → Type 0
+HeadInside bytes (HeadRead.Whole head) = 9 ≤ length bytes
+HeadInside bytes (HeadRead.Refused refusal) = Unit
 
 -- how many requests or entries were read, and the place behind them
 abbrev pub reached : List ℕ → Reached → Outcome ℕ
@@ -50,6 +55,20 @@ sumOver tally (a ∷ l) = tally a + sumOver tally l
 
 abbrev pub one : {A : Type 0} → A → ℕ
 one a = 1
+
+-- the end of the bytes, or 12
+abbrev pub endAs : Head → ℕ → ℕ → List ℕ → Judged
+endAs head requests entries [] = Judged.Accepted head requests entries
+endAs head requests entries (b ∷ rest) = Judged.Refused 12
+
+-- what is judged from the schedule on, and from the rows on
+abbrev pub scheduleAs : Head → ℕ → Outcome ℕ → Judged
+scheduleAs head requests (refused refusal) = Judged.Refused refusal
+scheduleAs head requests (read entries rest) = endAs head requests entries rest
+
+abbrev pub rowsAs : Head → Outcome ℕ → Judged
+rowsAs head (refused refusal) = Judged.Refused refusal
+rowsAs head (read requests rest) = scheduleAs head requests (tallied length (scheduleReader (head .n) rest))
 
 -- the answer of `judge`: the head, how many requests in all and how many entries, or the refusal
 abbrev pub judgedAs : Judgement → Judged

@@ -2,11 +2,11 @@
 use object::Kind;
 
 ghost use mathlib.Core.Path.{_≡_};
-ghost use Prim.Native.Nat.{_+_, _≤_, _<_};
+ghost use Prim.Native.Nat.{_+_, _-_, _≤_, _<_};
 ghost use lib.ListN.{length, take, drop};
 ghost use Rattle.bench_file.specs.Reading.{littleEndian, ranged, several};
 ghost use Rattle.bench_file.specs.Layout.{isMark, startReader, limitsReader, headReader, requestReader, rowReader, scheduleReader, judgeOf};
-ghost use Rattle.bench_file.specs.Cursor.{numberRead, byteRead, headRead, reached, Ahead, tallied, sumOver, one, judgedAs};
+ghost use Rattle.bench_file.specs.Cursor.{numberRead, byteRead, headRead, HeadInside, reached, Ahead, tallied, sumOver, one, scheduleAs, rowsAs, judgedAs};
 
 // Bytes 5 to 8 of a bench file.
 pub struct Head {
@@ -115,6 +115,7 @@ fn read_start(s: &[u8]) -> u8
 // Bytes 6 to 8, behind an object byte that is in range.
 fn read_limits(s: &[u8], object: Kind) -> HeadRead
     ensures { λ r. ⌜ headRead (now (s .entry)) r ≡ limitsReader object (drop 6 (now (s .entry))) ⌝ }
+    ensures { λ r. ⌜ HeadInside (now (s .entry)) r ⌝ }
 {
     let n = match byte_in(s, 6, 5, 1, 16) {
         ByteRead::Byte(b) => b,
@@ -139,6 +140,7 @@ fn read_limits(s: &[u8], object: Kind) -> HeadRead
 // Bytes 0 to 8.
 fn read_head(s: &[u8]) -> HeadRead
     ensures { λ r. ⌜ headRead (now (s .entry)) r ≡ headReader (now (s .entry)) ⌝ }
+    ensures { λ r. ⌜ HeadInside (now (s .entry)) r ⌝ }
 {
     let start = read_start(s);
     if start != 0 {
@@ -230,4 +232,100 @@ fn read_rows(s: &[u8], at: usize, object: Kind, n: u8) -> Reached
         i += 1;
     }
     Reached::At { next, count: done }
+}
+
+// An entry of the schedule, at most the last thread's number.
+fn read_entry(s: &[u8], at: usize, last: u8) -> Reached
+    ensures { λ r. ⌜ reached (now (s .entry)) r ≡ tallied one (ranged 11 0 last (drop at (now (s .entry)))) ⌝ }
+    ensures { λ r. ⌜ Ahead (now (s .entry)) at r ⌝ }
+{
+    match byte_in(s, at, 11, 0, last) {
+        ByteRead::Byte(_) => Reached::At { next: at + 1, count: 1 },
+        ByteRead::Refused(refusal) => Reached::Refused(refusal),
+    }
+}
+
+// So many entries.
+fn read_entries(s: &[u8], at: usize, last: u8, count: usize) -> Reached
+    requires { ⌜ at ≤ length (now s) ⌝ }
+    ensures { λ r. ⌜ reached (now (s .entry)) r ≡ tallied (sumOver one) (several count (ranged 11 0 last) (drop at (now (s .entry)))) ⌝ }
+    ensures { λ r. ⌜ Ahead (now (s .entry)) at r ⌝ }
+{
+    let mut next = at;
+    let mut done = 0usize;
+    let mut i = 0usize;
+    while i < count {
+        match read_entry(s, next, last) {
+            Reached::At { next: after, count: more } => {
+                next = after;
+                done += more;
+            }
+            Reached::Refused(refusal) => {
+                return Reached::Refused(refusal);
+            }
+        }
+        i += 1;
+    }
+    Reached::At { next, count: done }
+}
+
+fn last_thread(n: u8) -> u8
+    ensures { λ r. ⌜ r ≡ n - 1 ⌝ }
+{
+    if n == 0 { 0 } else { n - 1 }
+}
+
+// The schedule's length and its entries.
+fn read_schedule(s: &[u8], at: usize, n: u8) -> Reached
+    requires { ⌜ at ≤ length (now s) ⌝ }
+    ensures { λ r. ⌜ reached (now (s .entry)) r ≡ tallied length (scheduleReader n (drop at (now (s .entry)))) ⌝ }
+    ensures { λ r. ⌜ Ahead (now (s .entry)) at r ⌝ }
+{
+    if s.len() - at < 2 {
+        return Reached::Refused(1);
+    }
+    let entries = number2(s, at);
+    if 32768 < entries {
+        return Reached::Refused(10);
+    }
+    let last = last_thread(n);
+    read_entries(s, at + 2, last, entries as usize)
+}
+
+// From the schedule on, with the requests counted.
+fn judge_schedule(s: &[u8], at: usize, head: Head, requests: usize) -> Judged
+    requires { ⌜ at ≤ length (now s) ⌝ }
+    ensures { λ r. ⌜ r ≡ scheduleAs head requests (tallied length (scheduleReader (head .n) (drop at (now (s .entry))))) ⌝ }
+{
+    match read_schedule(s, at, head.n) {
+        Reached::At { next, count } => {
+            if next < s.len() {
+                return Judged::Refused(12);
+            }
+            Judged::Accepted { head, requests, entries: count }
+        }
+        Reached::Refused(refusal) => Judged::Refused(refusal),
+    }
+}
+
+// From the rows on.
+fn judge_rows(s: &[u8], head: Head) -> Judged
+    requires { ⌜ 9 ≤ length (now s) ⌝ }
+    ensures { λ r. ⌜ r ≡ rowsAs head (tallied (sumOver length) (several (head .n) (rowReader (head .object)) (drop 9 (now (s .entry))))) ⌝ }
+{
+    let object = head.object;
+    match read_rows(s, 9, object, head.n) {
+        Reached::At { next, count } => judge_schedule(s, next, head, count),
+        Reached::Refused(refusal) => Judged::Refused(refusal),
+    }
+}
+
+// Judges any bytes as a bench file, front to back.
+pub fn judge(file: &[u8]) -> Judged
+    ensures { λ r. ⌜ r ≡ judgedAs (judgeOf (now (file .entry))) ⌝ }
+{
+    match read_head(file) {
+        HeadRead::Whole(head) => judge_rows(file, head),
+        HeadRead::Refused(refusal) => Judged::Refused(refusal),
+    }
 }

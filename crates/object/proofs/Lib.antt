@@ -1,1 +1,3 @@
+pub mod Plainly
+pub mod Refusal
 pub mod Table

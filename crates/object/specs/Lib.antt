@@ -1,1 +1,3 @@
+pub mod Apply
 pub mod Paper
+pub mod Plain

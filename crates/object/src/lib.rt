@@ -1,6 +1,8 @@
 // The shared object: requests and answers, and the queue, the stack and the counter that a request is applied to.
 ghost use mathlib.Core.Path.{_≡_};
+ghost use Prim.Native.Nat.{_≤_};
 ghost use Rattle.object.specs.Paper.{within, kindNumber, kindOf, requestCode, requestValue, requestOf, answerMark, answerValue, leastCode, mostCode, codeKnown, valueAllowed, leastCapacity, mostCapacity, capacityAllowed};
+ghost use Rattle.object.specs.Apply.{answered, refusedWith, putOf, takeFirstOf, takeLastOf, takeOf, addOf, movedDown, heldInRange, appliedTo, applyOf, AppliesPlainly};
 
 // What the object byte of a bench file names.
 pub enum Kind {
@@ -21,6 +23,20 @@ pub enum Answer {
     Value(u32),
     Empty,
     Full,
+}
+
+// The object's storage: the queue and the stack use the first `held` of the 64 places, the counter `sum`.
+pub struct Object {
+    pub items: [u32; 64],
+    pub held: u8,
+    pub sum: u32,
+}
+
+// Refusal 0 with the answer and the object after, or a refusal's number with the object as it was.
+pub struct Applied {
+    pub refusal: u8,
+    pub answer: Answer,
+    pub object: Object,
 }
 
 pub fn between(least: u8, x: u8, most: u8) -> bool
@@ -163,4 +179,141 @@ pub fn capacity_allowed(kind: Kind, capacity: u8) -> bool
     ensures { λ r. ⌜ r ≡ capacityAllowed kind capacity ⌝ }
 {
     between(least_capacity(kind), capacity, most_capacity(kind))
+}
+
+pub fn object_in_range(kind: Kind, capacity: u8, held: u8) -> bool
+    ensures { λ r. ⌜ r ≡ heldInRange kind capacity held ⌝ }
+{
+    if capacity_allowed(kind, capacity) {
+        return held <= capacity;
+    }
+    false
+}
+
+fn answered(answer: Answer, object: Object) -> Applied
+    ensures { λ r. ⌜ r ≡ answered answer object ⌝ }
+{
+    Applied {
+        refusal: 0,
+        answer,
+        object,
+    }
+}
+
+fn refused_with(number: u8, object: Object) -> Applied
+    ensures { λ r. ⌜ r ≡ refusedWith number object ⌝ }
+{
+    Applied {
+        refusal: number,
+        answer: Answer::Empty,
+        object,
+    }
+}
+
+// The items after the first, of the `held` that there are, each moved down by one.
+fn moved_down(items: [u32; 64], held: u8) -> [u32; 64]
+    requires { ⌜ held ≤ 64 ⌝ }
+    ensures { λ r. ⌜ r ≡ movedDown items held ⌝ }
+{
+    let count = held as usize;
+    let mut moved = items;
+    let mut i: usize = 0;
+    while i + 1 < count {
+        moved[i] = items[i + 1];
+        i += 1;
+    }
+    moved
+}
+
+fn put(capacity: u8, value: u32, object: Object) -> Applied
+    requires { ⌜ capacity ≤ 64 ⌝ }
+    ensures { λ r. ⌜ r ≡ putOf capacity value object ⌝ }
+{
+    let held = object.held;
+    if held < capacity {
+        let mut after = object;
+        let place = held as usize;
+        after.items[place] = value;
+        after.held = held + 1;
+        return answered(Answer::Done, after);
+    }
+    answered(Answer::Full, object)
+}
+
+fn take_first(object: Object) -> Applied
+    requires { ⌜ object .held ≤ 64 ⌝ }
+    ensures { λ r. ⌜ r ≡ takeFirstOf object ⌝ }
+{
+    let held = object.held;
+    if held == 0 {
+        return answered(Answer::Empty, object);
+    }
+    let items = object.items;
+    let moved = moved_down(items, held);
+    let after = Object {
+        items: moved,
+        held: held - 1,
+        sum: object.sum,
+    };
+    answered(Answer::Value(items[0]), after)
+}
+
+fn take_last(object: Object) -> Applied
+    requires { ⌜ object .held ≤ 64 ⌝ }
+    ensures { λ r. ⌜ r ≡ takeLastOf object ⌝ }
+{
+    let held = object.held;
+    if held == 0 {
+        return answered(Answer::Empty, object);
+    }
+    let mut after = object;
+    after.held = held - 1;
+    let last = (held - 1) as usize;
+    answered(Answer::Value(object.items[last]), after)
+}
+
+fn take(kind: Kind, object: Object) -> Applied
+    requires { ⌜ object .held ≤ 64 ⌝ }
+    ensures { λ r. ⌜ r ≡ takeOf kind object ⌝ }
+{
+    match kind {
+        Kind::Queue => take_first(object),
+        Kind::Stack => take_last(object),
+        Kind::Counter => refused_with(9, object),
+    }
+}
+
+fn add(value: u32, object: Object) -> Applied
+    ensures { λ r. ⌜ r ≡ addOf value object ⌝ }
+{
+    let sum = object.sum;
+    let mut after = object;
+    after.sum = std::num::wrapping_add_u32(sum, value);
+    answered(Answer::Value(sum), after)
+}
+
+// A request to an object in range.
+fn applied_to(kind: Kind, capacity: u8, request: Request, object: Object) -> Applied
+    requires { ⌜ (capacity ≤ 64) × (object .held ≤ 64) ⌝ }
+    ensures { λ r. ⌜ r ≡ appliedTo kind capacity request object ⌝ }
+{
+    if !code_known(kind, request_code(request)) {
+        return refused_with(9, object);
+    }
+    match request {
+        Request::Put(value) => put(capacity, value, object),
+        Request::Take => take(kind, object),
+        Request::Add(value) => add(value, object),
+    }
+}
+
+// A request applied to the object: capacity and items held are judged first, then the request.
+pub fn apply(kind: Kind, capacity: u8, object: Object, request: Request) -> Applied
+    ensures { λ r. ⌜ r ≡ applyOf kind capacity object request ⌝ }
+    ensures { λ r. ⌜ AppliesPlainly kind capacity object request r ⌝ }
+{
+    if !object_in_range(kind, capacity, object.held) {
+        return refused_with(14, object);
+    }
+    applied_to(kind, capacity, request, object)
 }

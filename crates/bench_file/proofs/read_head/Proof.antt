@@ -22,7 +22,7 @@ read-start-requires c κs = search needs
 
 returns : tie.Need-returns
 unfolding headReader
-returns c = simp (stopped (bytes (c .before)) 5 (c .before .read-start .ensures) (c .if1 .taken))
+returns c = (simp (stopped (bytes (c .before)) 5 (c .before .read-start .ensures) (c .if1 .taken)), tt)
 
 byte-in-requires : tie.Need-byte-in-requires
 byte-in-requires c κs = search needs
@@ -44,15 +44,16 @@ unfolding headReader
 returns-2 c =
     let b = c .before .before .before in
     let e = b .before .before .before in
-    c .read-limits .ensures
-    ∙ simp (start-read e, byte-was (bytes (e .before)) 5 (b .before .before .byte-in .ensures) (b .b .given .1), ← c .before .kind-of .ensures)
+    (c .read-limits .ensures .0
+    ∙ simp (start-read e, byte-was (bytes (e .before)) 5 (b .before .before .byte-in .ensures) (b .b .given .1), ← c .before .kind-of .ensures),
+    c .read-limits .ensures .1)
 
 returns-3 : tie.Need-returns-3
 unfolding headReader
 returns-3 c =
     let b = c .before in
     let e = b .before .before .before in
-    simp (start-read e, byte-was (bytes (e .before)) 5 (b .before .before .byte-in .ensures) (b .refusal .given .1))
+    (simp (start-read e, byte-was (bytes (e .before)) 5 (b .before .before .byte-in .ensures) (b .refusal .given .1)), tt)
 
 pub read-head-spec : {M : Type 1} → statement M
 read-head-spec =

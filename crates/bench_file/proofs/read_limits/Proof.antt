@@ -7,7 +7,7 @@ use lib.ListN.{drop}
 use borrow.Author.Needs.{needs}
 use Rattle.bench_file.specs.Reading.{read, ranged}
 use Rattle.bench_file.specs.Layout.{limitsReader}
-use Rattle.bench_file.proofs.Reading.{byte-was}
+use Rattle.bench_file.proofs.Reading.{byte-was, inside}
 use Rattle.bench_file.proofs.read_limits.Statement.{statement}
 use Rattle.bench_file.proofs.read_limits.Tie as tie
 
@@ -32,7 +32,7 @@ enum-known-refusal c = search needs
 returns : tie.Need-returns
 unfolding limitsReader
 returns c =
-    simp (byte-was (c .before .before .before .before .before .args .s .now) 6 (c .before .before .before .byte-in .ensures) (c .before .refusal .given .1))
+    (simp (byte-was (c .before .before .before .before .before .args .s .now) 6 (c .before .before .before .byte-in .ensures) (c .before .refusal .given .1)), tt)
 
 byte-in-requires-2 : tie.Need-byte-in-requires-2
 byte-in-requires-2 c κs = search needs
@@ -47,7 +47,7 @@ returns-2 : tie.Need-returns-2
 unfolding limitsReader
 returns-2 c =
     let d = c .before .before .before .before in
-    simp (n-read d, byte-was (bytes d) 7 (c .before .before .before .byte-in2 .ensures) (c .before .refusal2 .given .1))
+    (simp (n-read d, byte-was (bytes d) 7 (c .before .before .before .byte-in2 .ensures) (c .before .refusal2 .given .1)), tt)
 
 least-capacity-requires : tie.Need-least-capacity-requires
 least-capacity-requires c κs = search needs
@@ -70,7 +70,8 @@ returns-3 c =
     let m = c .before .before .before .before in
     let e = m .before .before in
     let d = e .before .before .before .before in
-    simp (n-read d, h-read e, ← m .most-capacity .ensures, ← m .before .least-capacity .ensures, byte-was (bytes d) 8 (c .before .before .before .byte-in3 .ensures) (c .before .capacity .given .1))
+    let f = byte-was (bytes d) 8 (c .before .before .before .byte-in3 .ensures) (c .before .capacity .given .1) in
+    (simp (n-read d, h-read e, ← m .most-capacity .ensures, ← m .before .least-capacity .ensures, f), inside (bytes d) 8 7 _ _ f)
 
 returns-4 : tie.Need-returns-4
 unfolding limitsReader
@@ -78,7 +79,7 @@ returns-4 c =
     let m = c .before .before .before .before in
     let e = m .before .before in
     let d = e .before .before .before .before in
-    simp (n-read d, h-read e, ← m .most-capacity .ensures, ← m .before .least-capacity .ensures, byte-was (bytes d) 8 (c .before .before .before .byte-in3 .ensures) (c .before .refusal3 .given .1))
+    (simp (n-read d, h-read e, ← m .most-capacity .ensures, ← m .before .least-capacity .ensures, byte-was (bytes d) 8 (c .before .before .before .byte-in3 .ensures) (c .before .refusal3 .given .1)), tt)
 
 pub read-limits-spec : {M : Type 1} → statement M
 read-limits-spec =

@@ -8,8 +8,8 @@ use borrow.Author.Needs.{needs}
 use Rattle.object.specs.Paper.{leastCode, mostCode, valueAllowed}
 use Rattle.bench_file.specs.Reading.{read, ranged}
 use Rattle.bench_file.specs.Layout.{requestReader}
-use Rattle.bench_file.proofs.Reading.{byte-was}
-use Rattle.bench_file.proofs.Request.{inside, request-cut, request-allowed, request-denied}
+use Rattle.bench_file.proofs.Reading.{byte-was, inside}
+use Rattle.bench_file.proofs.Request.{request-cut, request-allowed, request-denied}
 use Rattle.bench_file.proofs.read_request.Statement.{statement}
 use Rattle.bench_file.proofs.read_request.Tie as tie
 

@@ -1,14 +1,11 @@
+-- `object::between` meets its contract: each return goes by the test that led there. Assumes nothing.
 use borrow.Author.Tests.{le-leb, lt-leb}
 use Rattle.object.proofs.between.Statement.{statement}
 use Rattle.object.proofs.between.Tie as tie
-use Rattle.object.proofs.between.Reads as reads
-use Rattle.object.proofs.between.Lts as lts
 
--- src/lib.rt:30:9
 returns : tie.Need-returns
 returns c = simp (lt-leb _ _ (c .if1 .taken))
 
--- src/lib.rt:26:1
 returns-2 : tie.Need-returns-2
 returns-2 c = simp (le-leb _ _ (c .if1 .left))
 

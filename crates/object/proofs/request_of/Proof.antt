@@ -1,19 +1,15 @@
+-- `object::request_of` meets its contract: the last arm is past the table's two entries. Assumes nothing.
 use Rattle.object.proofs.Table.{past-two}
 use borrow.Author.Needs.{needs}
 use Rattle.object.proofs.request_of.Statement.{statement}
 use Rattle.object.proofs.request_of.Tie as tie
-use Rattle.object.proofs.request_of.Reads as reads
-use Rattle.object.proofs.request_of.Lts as lts
 
--- src/lib.rt:55:1
 returns : tie.Need-returns
 returns c = simp (c .match .keys1)
 
--- src/lib.rt:55:1
 returns-2 : tie.Need-returns-2
 returns-2 c = search needs
 
--- src/lib.rt:55:1
 returns-3 : tie.Need-returns-3
 returns-3 c = past-two _ _ _ _ (c .match .rest .0 .1) (c .match .rest .1)
 

@@ -1,0 +1,162 @@
+-- A request applied to a storage of 64 places does what the plain object does, and leaves 64 places. Assumes nothing.
+use Prim.Native.Nat.{ℕ, _-_, _≤_, _<_}
+use mathlib.Core.List.{List}
+use mathlib.Core.Path.{_≡_, refl, sym, ap}
+use mathlib.Core.Bool.{Bool, true, false, cond}
+use native.Mathlib.Numerals.{add-one}
+use native.Mathlib.Omega.{arith}
+use lib.ListN.{length, getD, take, drop, length-set, length-append, length-drop}
+use lib.Seq.{length-take-le, length-slice, take-suc-set, take-at, take-take, getD-take}
+use lib.Dec.{T, leb, ltb, eqb, leb→le, le→leb}
+use lib.Ieee.Fits.{and-i, and-l, and-r}
+use borrow.Author.Tests.{ltb-true, eqb-false}
+use Rattle.object.specs.declared.Kind.{Kind}
+use Rattle.object.specs.declared.Kind.the-variants.{Queue, Stack, Counter}
+use Rattle.object.specs.declared.Request.{Request}
+use Rattle.object.specs.declared.Request.the-variants.{Put, Take, Add}
+use Rattle.object.specs.declared.Answer.{Answer}
+use Rattle.object.specs.declared.Answer.the-variants.{Done, Value, Empty, Full}
+use Rattle.object.specs.declared.Object.{Object}
+use Rattle.object.specs.declared.Applied.{Applied}
+use Rattle.object.specs.Paper.{leastCapacity, mostCapacity, capacityAllowed}
+use Rattle.object.specs.Plain.{Response, respond, holding, plainStep, plainPut, plainTakeFirst, plainTakeLast, plainAdd}
+use Rattle.object.specs.Apply.{holds, knows, objectInRange, heldInRange, answered, refusedWith, stored, movedDown, putOf, takeFirstOf, takeLastOf, addOf, served, applyOf, AppliesPlainly}
+
+-- r is not refused, is what the plain object responds, and leaves a storage within the capacity and of 64 places
+record Meets (capacity : ℕ) (p : Response) (r : Applied) : Type 0 where
+  accepted : r .refusal ≡ 0
+  plain : p ≡ record { answer = r .answer; after = holds (r .object) }
+  held : r .object .held ≤ capacity
+  places : length (r .object .items) ≡ 64
+
+-- a test that both sides make
+either : {capacity : ℕ} {p p′ : Response} {r r′ : Applied} (t : Bool)
+    → (t ≡ true → Meets capacity p r) → (t ≡ false → Meets capacity p′ r′) → Meets capacity (cond t p p′) (cond t r r′)
+either true f g = f refl
+either false f g = g refl
+
+-- on a storage of 64 places, within the capacity, each request that is known meets the plain object
+module _ (capacity : ℕ) (ob : Object) (long : length (ob .items) ≡ 64) (room : capacity ≤ 64) (fits : ob .held ≤ capacity) where
+  count : length (take (ob .held) (ob .items)) ≡ ob .held
+  count = length-take-le (ob .held) (ob .items) (omega arith)
+
+  unchanged : (a : Answer) → Meets capacity (respond a (holds ob)) (answered a ob)
+  unchanged a = record { accepted = refl; plain = refl; held = fits; places = long }
+
+  changed : (a : Answer) {values items : List ℕ} {held : ℕ}
+      → values ≡ take held items → held ≤ capacity → length items ≡ 64
+      → Meets capacity (respond a (holding (holds ob) values)) (answered a (stored ob items held))
+  changed a e h l = record {
+    accepted = refl;
+    plain = ap (λ (vs : List ℕ). respond a (holding (holds ob) vs)) e;
+    held = h;
+    places = l;
+  }
+
+  put-meets : (v : ℕ) → Meets capacity (plainPut capacity v (holds ob)) (putOf capacity v ob)
+  put-meets v =
+      rw count (either (ltb (ob .held) capacity)
+      (λ t.
+      let h : ob .held < capacity = ltb-true _ _ t in
+      changed Done (sym (rw add-one (take-suc-set (ob .items) (ob .held) v (omega arith)))) (omega arith)
+      (simp length-set long))
+      (λ t. unchanged Full))
+
+  -- the value at place i is given up
+  take-meets : (i : ℕ) (values items : List ℕ)
+      → (0 < ob .held → (i < ob .held) × (values ≡ take (ob .held - 1) items) × (length items ≡ 64))
+      → Meets capacity
+      (cond (eqb (ob .held) 0) (respond Empty (holds ob))
+      (respond (Value (getD (take (ob .held) (ob .items)) i 0)) (holding (holds ob) values)))
+      (cond (eqb (ob .held) 0) (answered Empty ob)
+      (answered (Value (getD (ob .items) i 0)) (stored ob items (ob .held - 1))))
+  take-meets i values items f =
+      either (eqb (ob .held) 0) (λ t. unchanged Empty)
+      (λ t.
+      let g = f (omega (arith, eqb-false (ob .held) 0 t)) in
+      let below = g .0 in
+      rw getD-take (changed (Value (getD (ob .items) i 0)) (g .1) (omega arith) (g .2)))
+
+  take-first-meets : Meets capacity (plainTakeFirst (holds ob)) (takeFirstOf ob)
+  take-first-meets =
+      let first = drop 1 (take (ob .held) (ob .items)) in
+      let n : length first ≡ ob .held - 1 = length-slice 1 (ob .held) (ob .items) (omega arith) in
+      rw count (take-meets 0 first (movedDown (ob .items) (ob .held))
+      (λ h. (h, sym (take-at _ _ _ n), rw (length-append, n, length-drop) (omega arith))))
+
+  take-last-meets : Meets capacity (plainTakeLast (holds ob)) (takeLastOf ob)
+  take-last-meets =
+      rw count (take-meets (ob .held - 1) _ (ob .items)
+      (λ h. (omega arith, take-take (ob .held - 1) (ob .held) (ob .items) (omega arith), long)))
+
+  add-meets : (v : ℕ) → Meets capacity (plainAdd v (holds ob)) (addOf v ob)
+  add-meets v = record { accepted = refl; plain = refl; held = fits; places = long }
+
+  meets : (kind : Kind) (request : Request) → T (knows kind request)
+      → Meets capacity (plainStep kind capacity request (holds ob)) (served kind capacity request ob)
+  meets Queue (Put v) k = put-meets v
+  meets Queue Take k = take-first-meets
+  meets Queue (Add v) k = absurd k
+  meets Stack (Put v) k = put-meets v
+  meets Stack Take k = take-last-meets
+  meets Stack (Add v) k = absurd k
+  meets Counter (Put v) k = absurd k
+  meets Counter Take k = absurd k
+  meets Counter (Add v) k = add-meets v
+
+most-places : (kind : Kind) → mostCapacity kind ≤ 64
+most-places Queue = omega arith
+most-places Stack = omega arith
+most-places Counter = omega arith
+
+capacity-bound : (kind : Kind) (capacity : ℕ) → T (capacityAllowed kind capacity) → capacity ≤ 64
+capacity-bound kind capacity h =
+    let below = leb→le capacity (mostCapacity kind) (and-r (leb (leastCapacity kind) capacity) (leb capacity (mostCapacity kind)) h) in
+    omega (arith, most-places kind)
+
+-- what the range gives as bounds
+pub range-bounds : (kind : Kind) (capacity held : ℕ) → T (heldInRange kind capacity held)
+    → (capacity ≤ 64) × (held ≤ capacity)
+range-bounds kind capacity held h =
+    let c = capacityAllowed kind capacity in
+    (capacity-bound kind capacity (and-l c (leb held capacity) h), leb→le held capacity (and-r c (leb held capacity) h))
+
+module _ (kind : Kind) (capacity : ℕ) (ob : Object) (request : Request) (long : length (ob .items) ≡ 64) where
+  abbrev Plainly : Applied → Type 0
+  Plainly r = AppliesPlainly kind capacity ob request r × (length (r .object .items) ≡ 64)
+
+  when-served : T (objectInRange kind capacity ob) → T (knows kind request) → Plainly (served kind capacity request ob)
+  when-served h k =
+      let allowed = capacityAllowed kind capacity in
+      let b = range-bounds kind capacity (ob .held) h in
+      let m = meets capacity ob long (b .0) (b .1) kind request k in
+      let after = served kind capacity request ob .object .held in (
+        record {
+          accepted = λ _ _. m .accepted;
+          plain = λ _ _. m .plain;
+          stays =
+              λ _.
+              and-i allowed (leb after capacity) (and-l allowed (leb (ob .held) capacity) h)
+              (le→leb after capacity (m .held));
+        },
+        m .places,
+      )
+
+  when-refused : (number : ℕ) → (T (objectInRange kind capacity ob) → T (knows kind request) → ⊥)
+      → Plainly (refusedWith number ob)
+  when-refused number out =
+      (record { accepted = λ h k. absurd (out h k); plain = λ h k. absurd (out h k); stays = λ h. h }, long)
+
+  by-tests : (t u : Bool) → objectInRange kind capacity ob ≡ t → knows kind request ≡ u
+      → Plainly (cond t (cond u (served kind capacity request ob) (refusedWith 9 ob)) (refusedWith 14 ob))
+  by-tests true true e f = when-served (rw e tt) (rw f tt)
+  by-tests true false e f = when-refused 9 (λ h k. rw f at k)
+  by-tests false u e f = when-refused 14 (λ h k. rw e at h)
+
+  -- what `apply` returns is the plain object's
+  pub applies-plainly : AppliesPlainly kind capacity ob request (applyOf kind capacity ob request)
+  applies-plainly = by-tests (objectInRange kind capacity ob) (knows kind request) refl refl .0
+
+  -- and the storage still has its 64 places
+  pub places-stay : length (applyOf kind capacity ob request .object .items) ≡ 64
+  places-stay = by-tests (objectInRange kind capacity ob) (knows kind request) refl refl .1
