@@ -20,6 +20,14 @@ use Rattle.bench_file.specs.Reading.{Outcome, refused, read}
 abbrev pub numberRead : List ℕ → ℕ → ℕ → Outcome Unit
 numberRead bytes next refusal = cond (eqb refusal 0) (read tt (drop next bytes)) (refused refusal)
 
+-- the same where only the refusal matters
+abbrev pub forgotten : {A : Type 0} → Outcome A → Outcome Unit
+forgotten (refused refusal) = refused refusal
+forgotten (read a rest) = read tt []
+
+abbrev pub numbered : ℕ → Outcome Unit
+numbered refusal = cond (eqb refusal 0) (read tt []) (refused refusal)
+
 -- the byte at a place
 abbrev pub byteRead : List ℕ → ℕ → ByteRead → Outcome ℕ
 byteRead bytes at (ByteRead.Byte b) = read b (drop (at + 1) bytes)

@@ -1,5 +1,6 @@
 -- The writer: fields given as numbers and rows, judged in the order of document 01, and what is then written.
 use Prim.Native.Nat.{ℕ, _+_, _*_}
+use mathlib.Core.Path.{_≡_}
 use mathlib.Core.Bool.{Bool, true, cond, _&&_}
 use mathlib.Core.List.{List, [], _∷_, _++_}
 use lib.ListN.{length, take, drop}
@@ -7,6 +8,7 @@ use lib.Dec.{leb, ltb}
 use Rattle.object.specs.declared.Kind.{Kind}
 use Rattle.object.specs.declared.Request.{Request}
 use Rattle.object.specs.Paper.{within, kindOf, leastCapacity, mostCapacity}
+use Rattle.bench_file.specs.declared.Written.{Written}
 use Rattle.bench_file.specs.Reading.{Outcome, refused, read, Reader, after, _>>=_, _>>_, done, rule, several}
 use Rattle.bench_file.specs.Layout.{Fields, Judgement, accepted, refusedBy, judged, requestReader}
 use Rattle.bench_file.specs.Bytes.{bytesOf}
@@ -34,21 +36,46 @@ unfoldable pub dealt : List ℕ → List Request → List (List Request)
 dealt [] requests = []
 dealt (count ∷ counts) requests = take count requests ∷ dealt counts (drop count requests)
 
--- 4 to 7; the row of counts short 1, long 12; each count by 8; the requests' bytes short 1, long 12; each request by 9; then 10 and 11
+-- the row of counts and the row of requests as they follow each other in the file
+unfoldable pub interleaved : List ℕ → List ℕ → List ℕ
+interleaved [] requests = []
+interleaved (count ∷ counts) requests = count ∷ take (5 * count) requests ++ interleaved counts (drop (5 * count) requests)
+
+-- object, n, h and the capacity
+unfoldable pub numberRules : ℕ → ℕ → ℕ → ℕ → Reader Unit
+numberRules object n h capacity = do
+  rule 4 (within 0 object 2)
+  rule 5 (within 1 n 16)
+  rule 6 (within 1 h 255)
+  rule 7 (within (leastCapacity (kindOf object)) capacity (mostCapacity (kindOf object)))
+
+-- a row of fewer than n counts, or of more; each count
+unfoldable pub countRules : ℕ → List ℕ → Reader Unit
+countRules n counts = do
+  rule 1 (leb n (length counts))
+  rule 12 (leb (length counts) n)
+  rule 8 (every (λ count. leb count 16) counts)
+
+-- too few bytes of requests for the counts, or too many; each request
+unfoldable pub requestsReader : Kind → ℕ → List ℕ → Reader (List Request)
+requestsReader object count requests = do
+  rule 1 (leb (5 * count) (length requests))
+  rule 12 (leb (length requests) (5 * count))
+  several count (requestReader object)
+
+-- the schedule's length; each entry
+unfoldable pub entryRules : ℕ → List ℕ → Reader Unit
+entryRules n schedule = do
+  rule 10 (leb (length schedule) 32768)
+  rule 11 (every (λ thread. ltb thread n) schedule)
+
+-- the rules in their order; the requests are read from their row
 unfoldable pub givenReader : Given → Reader Fields
 givenReader g = do
-  rule 4 (within 0 (g .object) 2)
-  rule 5 (within 1 (g .n) 16)
-  rule 6 (within 1 (g .h) 255)
-  rule 7 (within (leastCapacity (kindOf (g .object))) (g .capacity) (mostCapacity (kindOf (g .object))))
-  rule 1 (leb (g .n) (length (g .counts)))
-  rule 12 (leb (length (g .counts)) (g .n))
-  rule 8 (every (λ count. leb count 16) (g .counts))
-  rule 1 (leb (5 * total (g .counts)) (length (g .requests)))
-  rule 12 (leb (length (g .requests)) (5 * total (g .counts)))
-  requests ← several (total (g .counts)) (requestReader (kindOf (g .object)))
-  rule 10 (leb (length (g .schedule)) 32768)
-  rule 11 (every (λ thread. ltb thread (g .n)) (g .schedule))
+  numberRules (g .object) (g .n) (g .h) (g .capacity)
+  countRules (g .n) (g .counts)
+  requests ← requestsReader (kindOf (g .object)) (total (g .counts)) (g .requests)
+  entryRules (g .n) (g .schedule)
   done (record {
     head = record { object = kindOf (g .object); n = g .n; h = g .h; capacity = g .capacity };
     rows = dealt (g .counts) requests;
@@ -60,20 +87,26 @@ unfoldable pub givenOf : Given → Judgement
 givenOf g = judged (givenReader g (g .requests))
 
 -- the refusal, 0 for none, and the bytes written into a buffer of so many bytes; 13 where it is too short
-pub record Written : Type 0 where
+pub record Writing : Type 0 where
   pub refusal : ℕ
   pub bytes : List ℕ
 
-abbrev pub fitted : ℕ → List ℕ → Written
+abbrev pub fitted : ℕ → List ℕ → Writing
 fitted room bytes = cond (leb (length bytes) room) (record { refusal = 0; bytes = bytes }) (record { refusal = 13; bytes = [] })
 
-abbrev pub writtenAs : ℕ → Judgement → Written
+abbrev pub writtenAs : ℕ → Judgement → Writing
 writtenAs room (accepted f) = fitted room (bytesOf f)
 writtenAs room (refusedBy refusal) = record { refusal = refusal; bytes = [] }
 
-unfoldable pub writeOf : Given → ℕ → Written
+unfoldable pub writeOf : Given → ℕ → Writing
 writeOf g room = writtenAs room (givenOf g)
 
--- a buffer after the service: the bytes written from its first byte on, later bytes as they were
-abbrev pub filled : List ℕ → List ℕ → List ℕ
-filled bytes buffer = bytes ++ drop (length bytes) buffer
+-- bytes laid into a buffer from a place on, the others as they were
+abbrev pub pasted : List ℕ → ℕ → List ℕ → List ℕ
+pasted buffer at bytes = take at buffer ++ bytes ++ drop (at + length bytes) buffer
+
+-- what the service answers, and the lent buffer afterwards: what is written from its first byte on, later bytes as they were
+pub record WritesAs (writing : Writing) (answer : Written) (before after : List ℕ) : Type 0 where
+  pub refusal : answer .refusal ≡ writing .refusal
+  pub count : answer .length ≡ length (writing .bytes)
+  pub buffer : after ≡ writing .bytes ++ drop (length (writing .bytes)) before

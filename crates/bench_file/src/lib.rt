@@ -1,4 +1,6 @@
-// Bench files: judged front to back, and written from their fields.
+// Bench files: judged front to back, and written from their fields (writer.rt).
+pub mod writer;
+
 use object::Kind;
 
 ghost use mathlib.Core.Path.{_≡_};
@@ -42,6 +44,12 @@ pub enum Judged {
         entries: usize,
     },
     Refused(u8),
+}
+
+// The refusal, 0 for none, and how many bytes were written.
+pub struct Written {
+    pub refusal: u8,
+    pub length: usize,
 }
 
 // The field of one byte at a place: 1 where it is cut off, the given refusal where it is outside its range.
@@ -176,14 +184,14 @@ fn read_request(s: &[u8], at: usize, object: Kind) -> Reached
 }
 
 // So many requests.
-fn read_requests(s: &[u8], at: usize, object: Kind, count: u8) -> Reached
+fn read_requests(s: &[u8], at: usize, object: Kind, count: usize) -> Reached
     requires { ⌜ at ≤ length (now s) ⌝ }
     ensures { λ r. ⌜ reached (now (s .entry)) r ≡ tallied (sumOver one) (several count (requestReader object) (drop at (now (s .entry)))) ⌝ }
     ensures { λ r. ⌜ Ahead (now (s .entry)) at r ⌝ }
 {
     let mut next = at;
     let mut done = 0usize;
-    let mut i = 0u8;
+    let mut i = 0usize;
     while i < count {
         match read_request(s, next, object) {
             Reached::At { next: after, count: more } => {
@@ -205,7 +213,7 @@ fn read_row(s: &[u8], at: usize, object: Kind) -> Reached
     ensures { λ r. ⌜ Ahead (now (s .entry)) at r ⌝ }
 {
     match byte_in(s, at, 8, 0, 16) {
-        ByteRead::Byte(count) => read_requests(s, at + 1, object, count),
+        ByteRead::Byte(count) => read_requests(s, at + 1, object, count as usize),
         ByteRead::Refused(refusal) => Reached::Refused(refusal),
     }
 }

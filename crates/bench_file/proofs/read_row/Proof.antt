@@ -31,6 +31,9 @@ add-read-requests : tie.Need-add-read-requests
 add-read-requests c =
     omega (arith, count-inside c, given c .good)
 
+cast-read-requests : tie.Need-cast-read-requests
+cast-read-requests c = search needs
+
 read-requests-requires : tie.Need-read-requests-requires
 read-requests-requires c κs =
     let h = count-inside c in omega arith
@@ -60,6 +63,7 @@ read-row-spec =
     byte-in-requires
     enum-known-count
     add-read-requests
+    cast-read-requests
     read-requests-requires
     enum-known-refusal
     returns
