@@ -33,6 +33,11 @@ abbrev pub rule : ℕ → Bool → Reader Unit
 rule number true bytes = read tt bytes
 rule number false bytes = refused number
 
+-- rules in a row, each a refusal and its test
+abbrev pub rules : List (ℕ × Bool) → Reader Unit
+rules [] bytes = read tt bytes
+rules (r ∷ more) bytes = after (rule (r .0) (r .1) bytes) (λ _. rules more)
+
 -- the bytes of one field; 1 where the field is cut off by the end
 unfoldable pub field : ℕ → Reader (List ℕ)
 field zero bytes = read [] bytes

@@ -9,7 +9,7 @@ use Rattle.object.specs.declared.Kind.{Kind}
 use Rattle.object.specs.declared.Request.{Request}
 use Rattle.object.specs.Paper.{within, kindOf, leastCapacity, mostCapacity}
 use Rattle.bench_file.specs.declared.Written.{Written}
-use Rattle.bench_file.specs.Reading.{Outcome, refused, read, Reader, after, _>>=_, _>>_, done, rule, several}
+use Rattle.bench_file.specs.Reading.{Outcome, refused, read, Reader, after, _>>=_, _>>_, done, rules, several}
 use Rattle.bench_file.specs.Layout.{Fields, Judgement, accepted, refusedBy, judged, requestReader}
 use Rattle.bench_file.specs.Bytes.{bytesOf}
 
@@ -22,6 +22,17 @@ pub record Given : Type 0 where
   pub counts : List ℕ
   pub requests : List ℕ
   pub schedule : List ℕ
+
+abbrev pub givenBy : ℕ → ℕ → ℕ → ℕ → List ℕ → List ℕ → List ℕ → Given
+givenBy object n h capacity counts requests schedule = record {
+  object = object;
+  n = n;
+  h = h;
+  capacity = capacity;
+  counts = counts;
+  requests = requests;
+  schedule = schedule
+}
 
 unfoldable pub total : List ℕ → ℕ
 total [] = 0
@@ -42,40 +53,40 @@ interleaved [] requests = []
 interleaved (count ∷ counts) requests = count ∷ take (5 * count) requests ++ interleaved counts (drop (5 * count) requests)
 
 -- object, n, h and the capacity
-unfoldable pub numberRules : ℕ → ℕ → ℕ → ℕ → Reader Unit
-numberRules object n h capacity = do
-  rule 4 (within 0 object 2)
-  rule 5 (within 1 n 16)
-  rule 6 (within 1 h 255)
-  rule 7 (within (leastCapacity (kindOf object)) capacity (mostCapacity (kindOf object)))
+abbrev pub numberRules : ℕ → ℕ → ℕ → ℕ → List (ℕ × Bool)
+numberRules object n h capacity =
+    (4, within 0 object 2)
+    ∷ (5, within 1 n 16)
+    ∷ (6, within 1 h 255)
+    ∷ (7, within (leastCapacity (kindOf object)) capacity (mostCapacity (kindOf object)))
+    ∷ []
 
 -- a row of fewer than n counts, or of more; each count
-unfoldable pub countRules : ℕ → List ℕ → Reader Unit
-countRules n counts = do
-  rule 1 (leb n (length counts))
-  rule 12 (leb (length counts) n)
-  rule 8 (every (λ count. leb count 16) counts)
+abbrev pub countRules : ℕ → List ℕ → List (ℕ × Bool)
+countRules n counts =
+    (1, leb n (length counts)) ∷ (12, leb (length counts) n) ∷ (8, every (λ count. leb count 16) counts) ∷ []
 
--- too few bytes of requests for the counts, or too many; each request
-unfoldable pub requestsReader : Kind → ℕ → List ℕ → Reader (List Request)
-requestsReader object count requests = do
-  rule 1 (leb (5 * count) (length requests))
-  rule 12 (leb (length requests) (5 * count))
-  several count (requestReader object)
+-- too few bytes of requests for the counts, or too many
+abbrev pub sizeRules : ℕ → ℕ → List (ℕ × Bool)
+sizeRules count size = (1, leb (5 * count) size) ∷ (12, leb size (5 * count)) ∷ []
 
 -- the schedule's length; each entry
-unfoldable pub entryRules : ℕ → List ℕ → Reader Unit
-entryRules n schedule = do
-  rule 10 (leb (length schedule) 32768)
-  rule 11 (every (λ thread. ltb thread n) schedule)
+abbrev pub entryRules : ℕ → List ℕ → List (ℕ × Bool)
+entryRules n schedule = (10, leb (length schedule) 32768) ∷ (11, every (λ thread. ltb thread n) schedule) ∷ []
+
+-- the row of requests: its size, and each request by 9
+unfoldable pub requestsReader : Kind → ℕ → List ℕ → Reader (List Request)
+requestsReader object count requests = do
+  rules (sizeRules count (length requests))
+  several count (requestReader object)
 
 -- the rules in their order; the requests are read from their row
 unfoldable pub givenReader : Given → Reader Fields
 givenReader g = do
-  numberRules (g .object) (g .n) (g .h) (g .capacity)
-  countRules (g .n) (g .counts)
+  rules (numberRules (g .object) (g .n) (g .h) (g .capacity))
+  rules (countRules (g .n) (g .counts))
   requests ← requestsReader (kindOf (g .object)) (total (g .counts)) (g .requests)
-  entryRules (g .n) (g .schedule)
+  rules (entryRules (g .n) (g .schedule))
   done (record {
     head = record { object = kindOf (g .object); n = g .n; h = g .h; capacity = g .capacity };
     rows = dealt (g .counts) requests;

@@ -10,12 +10,13 @@ ghost use lib.ListN.{length};
 ghost use lib.Dec.{ltb};
 ghost use Rattle.object.specs.Paper.{kindOf};
 ghost use Rattle.bench_file.specs.Bytes.{headBytes, lowFirst};
+ghost use Rattle.bench_file.specs.Reading.{rules};
 ghost use Rattle.bench_file.specs.Cursor.{numberRead, forgotten, numbered};
-ghost use Rattle.bench_file.specs.Writer.{total, every, numberRules, countRules, requestsReader, entryRules, interleaved, pasted, writeOf, givenReader, WritesAs};
+ghost use Rattle.bench_file.specs.Writer.{total, every, numberRules, countRules, requestsReader, entryRules, interleaved, pasted, writeOf, givenBy, givenReader, WritesAs};
 
 // Object, n, h and capacity: 0, or the refusal.
 fn judge_numbers(object: u8, n: u8, h: u8, capacity: u8) -> u8
-    ensures { λ r. ⌜ ((bytes : List ℕ) → numberRead bytes 0 r ≡ numberRules object n h capacity bytes) ⌝ }
+    ensures { λ r. ⌜ ((bytes : List ℕ) → numberRead bytes 0 r ≡ rules (numberRules object n h capacity) bytes) ⌝ }
 {
     if !object::between(0, object, 2) {
         return 4;
@@ -62,7 +63,7 @@ fn total_of(counts: &[u8]) -> usize
 
 // The row of counts: 0, or the refusal.
 fn judge_counts(n: u8, counts: &[u8]) -> u8
-    ensures { λ r. ⌜ ((bytes : List ℕ) → numberRead bytes 0 r ≡ countRules n (now (counts .entry)) bytes) ⌝ }
+    ensures { λ r. ⌜ ((bytes : List ℕ) → numberRead bytes 0 r ≡ rules (countRules n (now (counts .entry))) bytes) ⌝ }
 {
     let threads = n as usize;
     if counts.len() < threads {
@@ -96,7 +97,7 @@ fn judge_requests(object: Kind, count: usize, requests: &[u8]) -> u8
 
 // The schedule: 0, or the refusal.
 fn judge_entries(n: u8, schedule: &[u8]) -> u8
-    ensures { λ r. ⌜ ((bytes : List ℕ) → numberRead bytes 0 r ≡ entryRules n (now (schedule .entry)) bytes) ⌝ }
+    ensures { λ r. ⌜ ((bytes : List ℕ) → numberRead bytes 0 r ≡ rules (entryRules n (now (schedule .entry))) bytes) ⌝ }
 {
     if 32768 < schedule.len() {
         return 10;
@@ -105,4 +106,77 @@ fn judge_entries(n: u8, schedule: &[u8]) -> u8
         return 0;
     }
     11
+}
+
+// All rules in their order: 0, or the refusal.
+fn judge_given(object: u8, n: u8, h: u8, capacity: u8, counts: &[u8], requests: &[u8], schedule: &[u8]) -> u8
+    ensures { λ r. ⌜ numbered r ≡ forgotten (givenReader (givenBy object n h capacity (now (counts .entry)) (now (requests .entry)) (now (schedule .entry))) (now (requests .entry))) ⌝ }
+{
+    let numbers = judge_numbers(object, n, h, capacity);
+    if numbers != 0 {
+        return numbers;
+    }
+    let row = judge_counts(n, counts);
+    if row != 0 {
+        return row;
+    }
+    let count = total_of(counts);
+    let asked = judge_requests(object::kind_of(object), count, requests);
+    if asked != 0 {
+        return asked;
+    }
+    judge_entries(n, schedule)
+}
+
+// Lays bytes into a buffer from a place on.
+fn put(out: &mut [u8], at: usize, src: &[u8])
+    requires { ⌜ at + length (now src) ≤ length (now out) ⌝ }
+    ensures { λ _. ⌜ now (out .exit) ≡ pasted (now (out .entry)) at (now (src .entry)) ⌝ }
+{
+    bytes::copy(src, &mut out[at..]);
+}
+
+// Bytes 0 to 8.
+fn put_head(out: &mut [u8], object: u8, n: u8, h: u8, capacity: u8)
+    requires { ⌜ 9 ≤ length (now out) ⌝ }
+    ensures { λ _. ⌜ now (out .exit) ≡ pasted (now (out .entry)) 0 (0x43 ∷ 0x43 ∷ 0x53 ∷ 1 ∷ 0 ∷ object ∷ n ∷ h ∷ capacity ∷ []) ⌝ }
+{
+    put(out, 0, &[0x43, 0x43, 0x53, 1, 0, object, n, h, capacity]);
+}
+
+// The schedule's length, two bytes.
+fn put_length(out: &mut [u8], at: usize, entries: usize)
+    requires { ⌜ at + 2 ≤ length (now out) ⌝ }
+    ensures { λ _. ⌜ now (out .exit) ≡ pasted (now (out .entry)) at (lowFirst 2 entries) ⌝ }
+{
+    put(out, at, &[(entries % 256) as u8, (entries / 256 % 256) as u8]);
+}
+
+// A thread's count and its requests, which are five bytes each.
+fn put_row(out: &mut [u8], at: usize, count: u8, requests: &[u8])
+    requires { ⌜ at + 1 + length (now requests) ≤ length (now out) ⌝ }
+    ensures { λ _. ⌜ now (out .exit) ≡ pasted (now (out .entry)) at (count ∷ now (requests .entry)) ⌝ }
+{
+    put(out, at, &[count]);
+    put(out, at + 1, requests);
+}
+
+// The rows of all threads, from a place on. It answers the place behind them.
+fn put_rows(out: &mut [u8], at: usize, counts: &[u8], requests: &[u8]) -> usize
+    requires { ⌜ (5 * total (now counts) ≤ length (now requests)) × (at + length (interleaved (now counts) (now requests)) ≤ length (now out)) ⌝ }
+    ensures { λ r. ⌜ r ≡ at + length (interleaved (now (counts .entry)) (now (requests .entry))) ⌝ }
+    ensures { λ _. ⌜ now (out .exit) ≡ pasted (now (out .entry)) at (interleaved (now (counts .entry)) (now (requests .entry))) ⌝ }
+{
+    let mut next = at;
+    let mut from = 0usize;
+    let mut i = 0usize;
+    while i < counts.len() {
+        let count = counts[i];
+        let end = from + 5 * (count as usize);
+        put_row(out, next, count, &requests[from..end]);
+        next += 1 + (end - from);
+        from = end;
+        i += 1;
+    }
+    next
 }

@@ -7,18 +7,16 @@ use lib.ListN.{length}
 use lib.Dec.{leb·suc-suc}
 use borrow.Author.Needs.{needs}
 use borrow.Author.Tests.{le-leb, lt-leb}
-use Rattle.bench_file.specs.Writer.{every, countRules}
+use Rattle.bench_file.specs.Writer.{every}
 use Rattle.bench_file.proofs.Rows.{every-same}
 use Rattle.bench_file.proofs.writer.judge_counts.Statement.{statement}
 use Rattle.bench_file.proofs.writer.judge_counts.Tie as tie
 
 returns : tie.Need-returns
-unfolding countRules
 returns c =
     λ bytes. simp (lt-leb _ _ (c .if1 .taken))
 
 returns-2 : tie.Need-returns-2
-unfolding countRules
 returns-2 c =
     λ bytes. simp (le-leb _ _ (c .before .if1 .left), lt-leb _ _ (c .if2 .taken))
 
@@ -26,13 +24,11 @@ every-below-requires : tie.Need-every-below-requires
 every-below-requires c κs = search needs
 
 returns-3 : tie.Need-returns-3
-unfolding countRules
 returns-3 c =
     let e = c .before .before in
     λ bytes. simp (le-leb _ _ (e .before .if1 .left), le-leb _ _ (e .if2 .left), sym (every-same _ _ _ (λ x. leb·suc-suc x 16)) ∙ sym (c .before .every-below .ensures) ∙ c .if3 .taken)
 
 returns-4 : tie.Need-returns-4
-unfolding countRules
 returns-4 c =
     let e = c .before .before in
     λ bytes. simp (le-leb _ _ (e .before .if1 .left), le-leb _ _ (e .if2 .left), sym (every-same _ _ _ (λ x. leb·suc-suc x 16)) ∙ sym (c .before .every-below .ensures) ∙ c .if3 .left)

@@ -2,12 +2,11 @@
 use mathlib.Core.Path.{_≡_, sym, _∙_}
 use borrow.Author.Needs.{needs}
 use borrow.Author.Tests.{le-leb, lt-leb}
-use Rattle.bench_file.specs.Writer.{every, entryRules}
+use Rattle.bench_file.specs.Writer.{every}
 use Rattle.bench_file.proofs.writer.judge_entries.Statement.{statement}
 use Rattle.bench_file.proofs.writer.judge_entries.Tie as tie
 
 returns : tie.Need-returns
-unfolding entryRules
 returns c =
     λ bytes. simp (lt-leb _ _ (c .if1 .taken))
 
@@ -15,12 +14,10 @@ every-below-requires : tie.Need-every-below-requires
 every-below-requires c κs = search needs
 
 returns-2 : tie.Need-returns-2
-unfolding entryRules
 returns-2 c =
     λ bytes. simp (le-leb _ _ (c .before .before .if1 .left), sym (c .before .every-below .ensures) ∙ c .if2 .taken)
 
 returns-3 : tie.Need-returns-3
-unfolding entryRules
 returns-3 c =
     λ bytes. simp (le-leb _ _ (c .before .before .if1 .left), sym (c .before .every-below .ensures) ∙ c .if2 .left)
 

@@ -1,7 +1,6 @@
 -- `bench_file::writer::judge_numbers` meets its contract: the rules before a return are kept, and the one that it stops at is broken. Assumes nothing.
 use borrow.Author.Needs.{needs}
 use Rattle.object.proofs.Refusal.{passes, fails}
-use Rattle.bench_file.specs.Writer.{numberRules}
 use Rattle.bench_file.proofs.writer.judge_numbers.Statement.{statement}
 use Rattle.bench_file.proofs.writer.judge_numbers.Tie as tie
 
@@ -9,7 +8,6 @@ between-requires : tie.Need-between-requires
 between-requires c κs = search needs
 
 returns : tie.Need-returns
-unfolding numberRules
 returns c =
     λ bytes. simp (fails (c .before .between .ensures) (c .if1 .taken))
 
@@ -17,7 +15,6 @@ between-requires-2 : tie.Need-between-requires-2
 between-requires-2 c κs = search needs
 
 returns-2 : tie.Need-returns-2
-unfolding numberRules
 returns-2 c =
     let a = c .before .before in
     λ bytes. simp (passes (a .before .between .ensures) (a .if1 .left), fails (c .before .between2 .ensures) (c .if2 .taken))
@@ -26,7 +23,6 @@ between-requires-3 : tie.Need-between-requires-3
 between-requires-3 c κs = search needs
 
 returns-3 : tie.Need-returns-3
-unfolding numberRules
 returns-3 c =
     let b = c .before .before in
     let a = b .before .before in
@@ -40,7 +36,6 @@ capacity-allowed-requires : tie.Need-capacity-allowed-requires
 capacity-allowed-requires c κs = search needs
 
 returns-4 : tie.Need-returns-4
-unfolding numberRules
 returns-4 c =
     let d = c .before .before .before in
     let b = d .before .before in
@@ -49,7 +44,6 @@ returns-4 c =
     simp (passes (a .before .between .ensures) (a .if1 .left), passes (b .before .between2 .ensures) (b .if2 .left), passes (d .before .between3 .ensures) (d .if3 .left), ← c .before .before .kind-of .ensures, fails (c .before .capacity-allowed .ensures) (c .if4 .taken))
 
 returns-5 : tie.Need-returns-5
-unfolding numberRules
 returns-5 c =
     let d = c .before .before .before in
     let b = d .before .before in

@@ -10,7 +10,8 @@ use Rattle.bench_file.specs.Layout.{requestReader}
 use Rattle.bench_file.specs.Cursor.{forgotten, sumOver, one}
 use Rattle.bench_file.specs.Writer.{requestsReader}
 use Rattle.bench_file.proofs.Reading.{reached-was}
-use Rattle.bench_file.proofs.Firm.{firm-requests, firm-tallied, forgotten-tallied}
+use Rattle.bench_file.proofs.Forgotten.{forgotten-tallied}
+use Rattle.bench_file.proofs.Numbered.{several-numbered, request-numbered, tallied-numbered}
 use Rattle.bench_file.proofs.writer.judge_requests.Statement.{statement}
 use Rattle.bench_file.proofs.writer.judge_requests.Tie as tie
 
@@ -60,7 +61,7 @@ returns-4 c =
     let d = c .before .before .before .before in
     let a = given d .args in
     let e = reached-was (a .requests .now) (c .before .before .before .read-requests .ensures .0) (c .before .refusal .given .1) in
-    simp (le-leb _ _ (d .before .if1 .left), le-leb _ _ (d .if2 .left), ne-eqb _ _ (firm-tallied (sumOver one) (asked d) (firm-requests (a .object) (a .count) (a .requests .now)) e))
+    simp (le-leb _ _ (d .before .if1 .left), le-leb _ _ (d .if2 .left), ne-eqb _ _ (tallied-numbered (sumOver one) (several-numbered (request-numbered (a .object)) (a .count)) (a .requests .now) e))
     (sym (sym (forgotten-tallied (sumOver one) (asked d)) ∙ ap forgotten e))
 
 pub judge-requests-spec : {M : Type 1} → statement M
