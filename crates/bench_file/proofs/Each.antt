@@ -4,7 +4,7 @@ use native.Mathlib.Nat.{div-lt-iff-lt-mul, pow-suc, mul-zero, mul-suc}
 use native.Mathlib.Omega.{arith}
 use mathlib.Core.Path.{_≡_, refl, sym, ap, _∙_}
 use mathlib.Core.List.{List, [], _∷_, _++_, append-assoc}
-use lib.ListN.{length, take, drop, length-append, take-append-drop}
+use lib.ListN.{length, getD, take, drop, length-append, take-append-drop}
 use lib.Dec.{lit<}
 use lib.Seq.{length-take-le, take-at, drop-at}
 use Rattle.bench_file.specs.Reading.{littleEndian}
@@ -32,6 +32,11 @@ module _ {A : Type 0} (P : A → Type 0) where
 pub each-map : {A : Type 0} {P Q : A → Type 0} → ((a : A) → P a → Q a) → (l : List A) → Each P l → Each Q l
 each-map f [] p = tt
 each-map f (a ∷ l) p = (f a (p .0), each-map f l (p .1))
+
+-- what is a byte at each place are bytes
+pub each-at : (l : List ℕ) → ((i : ℕ) → Byte (getD l i 0)) → Each Byte l
+each-at [] f = tt
+each-at (b ∷ l) f = (f 0, each-at l (λ i. f (suc i)))
 
 -- the bytes of a list, one after the other
 module _ {A : Type 0} (bytes : A → List ℕ) where

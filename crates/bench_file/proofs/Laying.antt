@@ -5,10 +5,19 @@ use mathlib.Core.Path.{_≡_, refl, sym, ap, _∙_}
 use mathlib.Core.List.{List, [], _∷_, _++_}
 use lib.ListN.{length, getD, take, drop, length-append, length-drop, drop-of-length-le}
 use lib.Seq.{length-take-le, drop-drop}
-use Rattle.bench_file.specs.Writer.{total, interleaved, pasted}
+use Rattle.bench_file.specs.Writer.{Given, total, interleaved, rawBytes, pasted}
+use Rattle.bench_file.proofs.Each.{low-length}
 use Rattle.bench_file.proofs.Reading.{cons-at}
 use Rattle.bench_file.proofs.Rows.{total-more}
 use Rattle.bench_file.proofs.Pasted.{pasted-nothing, pasted-twice, length-pasted}
+
+-- the rows take a byte a thread and five a request
+pub interleaved-length : (counts requests : List ℕ) → 5 * total counts ≤ length requests → length (interleaved counts requests) ≡ length counts + 5 * total counts
+unfolding interleaved total
+interleaved-length [] requests h = refl
+interleaved-length (count ∷ counts) requests h =
+    let e = interleaved-length counts (drop (5 * count) requests) (rw length-drop (omega arith)) in
+    rw (length-append, length-take-le (5 * count) requests (omega arith)) (omega arith)
 
 module _ (counts requests : List ℕ) where
   -- what is left to lay, from thread i and from a place of the requests on
@@ -61,7 +70,7 @@ module _ (counts requests : List ℕ) where
         left =
             rw (e, ← row-length) (pasted-twice buffer next (Row i from end) (Rest (i + 1) end) (omega (arith, room, l .size))
             ∙ ap (λ (rows : List ℕ). pasted buffer next rows) (sym (rest-row i from below))
-            ∙ l .left)
+            ∙ l .left);
       }
 
     pub ends : {buffer : List ℕ} {next from i : ℕ} → Laying buffer next from i → length counts ≤ i
@@ -70,3 +79,7 @@ module _ (counts requests : List ℕ) where
     ends {buffer} {next} {from} {i} l h =
         let e : Rest i from ≡ [] = rw drop-of-length-le in
         (omega (arith, l .ahead, ap length e), sym (pasted-nothing buffer next) ∙ rw e at (l .left))
+
+pub raw-length : (g : Given) → length (rawBytes g) ≡ 11 + length (interleaved (g .counts) (g .requests)) + length (g .schedule)
+unfolding rawBytes
+raw-length g = simp length-append (omega (arith, low-length 2 (length (g .schedule))))

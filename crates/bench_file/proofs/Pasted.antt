@@ -32,3 +32,9 @@ module _ (buffer : List ℕ) (at : ℕ) where
   pasted-part src part h e =
       let n : length (drop at buffer) ≤ length buffer - at = rw length-drop (omega arith) in
       rw (e, take-length, take-all (length buffer - at) (drop at buffer) n, drop-of-length-le (drop at buffer) n, append-nil, drop-drop, ← append-assoc)
+
+-- a run laid behind what was laid from the buffer's first byte on
+pub pasted-behind : (buffer x y : List ℕ) (at : ℕ) {once twice : List ℕ} → once ≡ pasted buffer 0 x → at ≡ length x → twice ≡ pasted once at y → twice ≡ pasted buffer 0 (x ++ y)
+pasted-behind buffer x y at p e q =
+    let z : at ≡ 0 + length x = omega arith in
+    q ∙ rw (p, z) (pasted-twice buffer 0 x y (omega arith))

@@ -78,9 +78,10 @@ module _ (s : List ℕ) (at : ℕ) where
 -- a byte that was read lies within the bytes
 pub inside : (s : List ℕ) (at refusal least most : ℕ) {b : ℕ} {rest : List ℕ} → ranged refusal least most (drop at s) ≡ read b rest → at < length s
 inside s at refusal least most {b} {rest} e =
-    elim (decLe (length s) at)
-    [ yes h ↦ let z : _≡_ {A = ℕ} 0 1 = cc (ranged-cut s at refusal least most h) in absurd (omega arith)
-    | no h ↦ omega arith ]
+    elim (decLe (length s) at) [
+      | yes h ↦ let z : _≡_ {A = ℕ} 0 1 = cc (ranged-cut s at refusal least most h) in absurd (omega arith)
+      | no h ↦ omega arith
+    ]
 
 -- the numbers of two and of four bytes at a place
 module _ (s : List ℕ) (at : ℕ) where

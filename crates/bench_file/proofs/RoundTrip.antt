@@ -51,7 +51,7 @@ number-of-kind Queue = refl
 number-of-kind Stack = refl
 number-of-kind Counter = refl
 
-kind-of-number : (number : ℕ) → number ≤ 2 → kindNumber (kindOf number) ≡ number
+pub kind-of-number : (number : ℕ) → number ≤ 2 → kindNumber (kindOf number) ≡ number
 kind-of-number zero h = refl
 kind-of-number (suc zero) h = refl
 kind-of-number (suc (suc number)) h = omega arith

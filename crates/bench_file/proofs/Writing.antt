@@ -18,12 +18,12 @@ use Rattle.bench_file.specs.Reading.{Outcome, refused, read, Reader, aft
 use Rattle.bench_file.specs.Layout.{Fields, Judgement, accepted, refusedBy, judged, judgeOf, requestReader}
 use Rattle.bench_file.specs.Bytes.{lowFirst, requestBytes, eachBytes, rowBytes, headBytes, bytesOf, Each, Byte, RequestInRange, RowInRange, CapacityInRange, InRange}
 use Rattle.bench_file.specs.Cursor.{sumOver}
-use Rattle.bench_file.specs.Writer.{Given, total, every, dealt, interleaved, numberRules, countRules, sizeRules, entryRules, requestsReader, givenReader, givenOf, fitted, writtenAs, writeOf}
+use Rattle.bench_file.specs.Writer.{Given, total, every, dealt, interleaved, rawBytes, numberRules, countRules, sizeRules, entryRules, requestsReader, givenReader, givenOf, fitted, writtenAs, writeOf}
 use Rattle.bench_file.proofs.Each.{each-take, each-drop, each-map, eachBytes-length, eachBytes-take, eachBytes-drop, low-length}
 use Rattle.bench_file.proofs.Codec.{came, within-range, several-codec}
 use Rattle.bench_file.proofs.Numbered.{Numbered, done-numbered, after-numbered, several-numbered, request-numbered}
 use Rattle.bench_file.proofs.Rules.{rules-kept, rules-numbered}
-use Rattle.bench_file.proofs.RoundTrip.{capacity-range, request-codec, judged-came, reads-back}
+use Rattle.bench_file.proofs.RoundTrip.{kind-of-number, capacity-range, request-codec, judged-came, reads-back}
 
 request-length : (r : Request) → length (requestBytes r) ≡ 5
 request-length r = ap suc (low-length 4 (requestValue r))
@@ -74,6 +74,7 @@ takenFields g requests = record {
 
 -- what is known of fields that the writer was given and takes
 record Taken (g : Given) (f : Fields) : Type 0 where
+  object : g .object ≤ 2
   n : (1 ≤ g .n) × (g .n ≤ 16)
   h : (1 ≤ g .h) × (g .h ≤ 255)
   capacity : CapacityInRange (kindOf (g .object)) (g .capacity)
@@ -104,6 +105,7 @@ taken g f p e =
     let (ts, q5) = rules-kept (entryRules (g .n) (g .schedule)) left e5 in
     let (k, q) = several-codec (request-codec object) (total (g .counts)) .back bs l left p (ap (several (total (g .counts)) (requestReader object)) (q1 ∙ q2 ∙ q4) ∙ r4) in
     record {
+      object = within-range 0 (g .object) 2 .0 t4 .1;
       n = within-range _ _ _ .0 t5;
       h = within-range _ _ _ .0 t6;
       capacity = capacity-range object (g .capacity) .0 (within-range _ _ _ .0 t7);
@@ -128,16 +130,40 @@ module _ (g : Given) (f : Fields) where
     schedule = t .schedule;
   })
 
-  taken-bytes : Taken g f → bytesOf f ≡ headBytes (f .head) ++ interleaved (g .counts) (g .requests) ++ lowFirst 2 (length (g .schedule)) ++ g .schedule
-  unfolding bytesOf
-  taken-bytes t = rw (t .fields, t .whole, dealt-rows (g .counts) (t .requests) (t .number))
+  -- the rows go into the file as they are given, a count before each thread's
+  taken-bytes : Taken g f → bytesOf f ≡ rawBytes g
+  unfolding bytesOf rawBytes
+  taken-bytes t = rw (t .fields, t .whole, dealt-rows (g .counts) (t .requests) (t .number), kind-of-number (g .object) (t .object))
 
   pub given-in-range : Each Byte (g .requests) → givenOf g ≡ accepted f → InRange f
   given-in-range p e = taken-range (taken g f p e)
 
-  -- the rows go into the file as they are given, a count before each thread's
-  pub dealt-bytes : Each Byte (g .requests) → givenOf g ≡ accepted f → bytesOf f ≡ headBytes (f .head) ++ interleaved (g .counts) (g .requests) ++ lowFirst 2 (length (g .schedule)) ++ g .schedule
-  dealt-bytes p e = taken-bytes (taken g f p e)
+total-bound : (counts : List ℕ) → Each (λ count. count ≤ 16) counts → total counts ≤ 16 * length counts
+unfolding total
+total-bound [] p = omega arith
+total-bound (count ∷ counts) p = omega (arith, p .0, total-bound counts (p .1))
+
+-- what the code needs of fields that the writer was given and takes
+pub record Takes (g : Given) (f : Fields) : Type 0 where
+  pub fields : givenOf g ≡ accepted f
+  pub threads : length (g .counts) ≤ 16
+  pub few : total (g .counts) ≤ 256
+  pub asked : length (g .requests) ≡ 5 * total (g .counts)
+  pub entries : length (g .schedule) ≤ 32768
+  pub bytes : bytesOf f ≡ rawBytes g
+
+pub takes : (g : Given) (f : Fields) (rest : List ℕ) → Each Byte (g .requests) → givenReader g (g .requests) ≡ read f rest → Takes g f
+unfolding givenOf
+takes g f rest p e =
+    let t = taken g f p (rw e) in
+    record {
+      fields = rw e;
+      threads = omega (arith, t .threads, t .n);
+      few = omega (arith, total-bound (g .counts) (t .counts), t .threads, t .n);
+      asked = ap length (t .whole) ∙ eachBytes-length requestBytes 5 request-length (t .requests) ∙ ap (λ (k : ℕ). 5 * k) (t .number);
+      entries = t .entries;
+      bytes = taken-bytes g f t;
+    }
 
 -- how long a file is
 rows-length : (rows : List (List Request)) → length (eachBytes rowBytes rows) ≡ length rows + 5 * sumOver length rows
@@ -178,6 +204,19 @@ fitted-whole room bytes e =
 written-came : (g : Given) (room : ℕ) (j : Judgement) → givenOf g ≡ j → writtenAs room j .refusal ≡ 0 → (f : Fields) × (j ≡ accepted f) × (writtenAs room j .bytes ≡ bytesOf f)
 written-came g room (accepted f) e h = (f, refl, fitted-whole room (bytesOf f) h)
 written-came g room (refusedBy refusal) e h = absurd (given-never g (e ∙ ap refusedBy h))
+
+-- what is written, by what is given and the buffer's size
+pub write-refused : (g : Given) (room refusal : ℕ) → givenReader g (g .requests) ≡ refused refusal → writeOf g room ≡ record { refusal = refusal; bytes = [] }
+unfolding writeOf givenOf
+write-refused g room refusal e = rw e
+
+pub write-short : (g : Given) (f : Fields) (room : ℕ) → Takes g f → room < length (rawBytes g) → writeOf g room ≡ record { refusal = 13; bytes = [] }
+unfolding writeOf
+write-short g f room t h = rw (t .fields, t .bytes, lt-leb _ _ h)
+
+pub write-whole : (g : Given) (f : Fields) (room : ℕ) → Takes g f → length (rawBytes g) ≤ room → writeOf g room ≡ record { refusal = 0; bytes = rawBytes g }
+unfolding writeOf
+write-whole g f room t h = rw (t .fields, t .bytes, le-leb _ _ h)
 
 -- what the writer writes is judged accepted, with the fields that it was given
 pub written-accepted : (g : Given) (room : ℕ) → Each Byte (g .requests) → writeOf g room .refusal ≡ 0 → (f : Fields) × (givenOf g ≡ accepted f) × (judgeOf (writeOf g room .bytes) ≡ accepted f)

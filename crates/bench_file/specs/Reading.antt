@@ -6,7 +6,6 @@ use Rattle.object.specs.Paper.{within}
 
 infixl 20 _>>=_
 infixl 20 _>>_
-
 pub data Outcome (A : Type 0) : Type 0 where
   refused : ℕ → Outcome A
   read : A → List ℕ → Outcome A

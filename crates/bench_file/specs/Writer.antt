@@ -11,7 +11,7 @@ use Rattle.object.specs.Paper.{within, kindOf, leastCapacity, mostCapacity}
 use Rattle.bench_file.specs.declared.Written.{Written}
 use Rattle.bench_file.specs.Reading.{Outcome, refused, read, Reader, after, _>>=_, _>>_, done, rules, several}
 use Rattle.bench_file.specs.Layout.{Fields, Judgement, accepted, refusedBy, judged, requestReader}
-use Rattle.bench_file.specs.Bytes.{bytesOf}
+use Rattle.bench_file.specs.Bytes.{lowFirst, bytesOf}
 
 -- what the writer is given: four numbers, the row of counts, the row of requests in the file's five-byte form, the schedule
 pub record Given : Type 0 where
@@ -31,7 +31,7 @@ givenBy object n h capacity counts requests schedule = record {
   capacity = capacity;
   counts = counts;
   requests = requests;
-  schedule = schedule
+  schedule = schedule;
 }
 
 unfoldable pub total : List ℕ → ℕ
@@ -51,6 +51,14 @@ dealt (count ∷ counts) requests = take count requests ∷ dealt counts (drop c
 unfoldable pub interleaved : List ℕ → List ℕ → List ℕ
 interleaved [] requests = []
 interleaved (count ∷ counts) requests = count ∷ take (5 * count) requests ++ interleaved counts (drop (5 * count) requests)
+
+-- the file's bytes straight from what is given, for the code to lay out
+unfoldable pub rawBytes : Given → List ℕ
+rawBytes g =
+    (0x43 ∷ 0x43 ∷ 0x53 ∷ 1 ∷ 0 ∷ g .object ∷ g .n ∷ g .h ∷ g .capacity ∷ [])
+    ++ interleaved (g .counts) (g .requests)
+    ++ lowFirst 2 (length (g .schedule))
+    ++ g .schedule
 
 -- object, n, h and the capacity
 abbrev pub numberRules : ℕ → ℕ → ℕ → ℕ → List (ℕ × Bool)
@@ -90,7 +98,7 @@ givenReader g = do
   done (record {
     head = record { object = kindOf (g .object); n = g .n; h = g .h; capacity = g .capacity };
     rows = dealt (g .counts) requests;
-    schedule = g .schedule
+    schedule = g .schedule;
   })
 
 -- the fields that the writer is given, or the refusal

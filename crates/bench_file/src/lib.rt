@@ -2,7 +2,6 @@
 pub mod writer;
 
 use object::Kind;
-
 ghost use mathlib.Core.Path.{_≡_};
 ghost use Prim.Native.Nat.{_+_, _-_, _≤_, _<_};
 ghost use lib.ListN.{length, take, drop};
@@ -140,7 +139,12 @@ fn read_limits(s: &[u8], object: Kind) -> HeadRead
     let least = object::least_capacity(object);
     let most = object::most_capacity(object);
     match byte_in(s, 8, 7, least, most) {
-        ByteRead::Byte(capacity) => HeadRead::Whole(Head { object, n, h, capacity }),
+        ByteRead::Byte(capacity) => HeadRead::Whole(Head {
+            object,
+            n,
+            h,
+            capacity,
+        }),
         ByteRead::Refused(refusal) => HeadRead::Refused(refusal),
     }
 }
@@ -178,7 +182,10 @@ fn read_request(s: &[u8], at: usize, object: Kind) -> Reached
     }
     let value = number4(s, at + 1);
     if object::value_allowed(code, value) {
-        return Reached::At { next: at + 5, count: 1 };
+        return Reached::At {
+            next: at + 5,
+            count: 1,
+        };
     }
     Reached::Refused(9)
 }
@@ -194,7 +201,10 @@ fn read_requests(s: &[u8], at: usize, object: Kind, count: usize) -> Reached
     let mut i = 0usize;
     while i < count {
         match read_request(s, next, object) {
-            Reached::At { next: after, count: more } => {
+            Reached::At {
+                next: after,
+                count: more,
+            } => {
                 next = after;
                 done += more;
             }
@@ -229,7 +239,10 @@ fn read_rows(s: &[u8], at: usize, object: Kind, n: u8) -> Reached
     let mut i = 0u8;
     while i < n {
         match read_row(s, next, object) {
-            Reached::At { next: after, count: more } => {
+            Reached::At {
+                next: after,
+                count: more,
+            } => {
                 next = after;
                 done += more;
             }
@@ -248,7 +261,10 @@ fn read_entry(s: &[u8], at: usize, last: u8) -> Reached
     ensures { λ r. ⌜ Ahead (now (s .entry)) at r ⌝ }
 {
     match byte_in(s, at, 11, 0, last) {
-        ByteRead::Byte(_) => Reached::At { next: at + 1, count: 1 },
+        ByteRead::Byte(_) => Reached::At {
+            next: at + 1,
+            count: 1,
+        },
         ByteRead::Refused(refusal) => Reached::Refused(refusal),
     }
 }
@@ -264,7 +280,10 @@ fn read_entries(s: &[u8], at: usize, last: u8, count: usize) -> Reached
     let mut i = 0usize;
     while i < count {
         match read_entry(s, next, last) {
-            Reached::At { next: after, count: more } => {
+            Reached::At {
+                next: after,
+                count: more,
+            } => {
                 next = after;
                 done += more;
             }
@@ -310,7 +329,11 @@ fn judge_schedule(s: &[u8], at: usize, head: Head, requests: usize) -> Judged
             if next < s.len() {
                 return Judged::Refused(12);
             }
-            Judged::Accepted { head, requests, entries: count }
+            Judged::Accepted {
+                head,
+                requests,
+                entries: count,
+            }
         }
         Reached::Refused(refusal) => Judged::Refused(refusal),
     }

@@ -2,7 +2,6 @@
 use crate::Reached;
 use crate::Written;
 use object::Kind;
-
 ghost use mathlib.Core.Path.{_≡_};
 ghost use Prim.Native.Nat.{ℕ, _+_, _*_, _≤_, _<_};
 ghost use mathlib.Core.List.{List, _∷_, []};
@@ -12,7 +11,7 @@ ghost use Rattle.object.specs.Paper.{kindOf};
 ghost use Rattle.bench_file.specs.Bytes.{headBytes, lowFirst};
 ghost use Rattle.bench_file.specs.Reading.{rules};
 ghost use Rattle.bench_file.specs.Cursor.{numberRead, forgotten, numbered};
-ghost use Rattle.bench_file.specs.Writer.{total, every, numberRules, countRules, requestsReader, entryRules, interleaved, pasted, writeOf, givenBy, givenReader, WritesAs};
+ghost use Rattle.bench_file.specs.Writer.{total, every, numberRules, countRules, requestsReader, entryRules, interleaved, rawBytes, pasted, writeOf, givenBy, givenReader, WritesAs};
 
 // Object, n, h and capacity: 0, or the refusal.
 fn judge_numbers(object: u8, n: u8, h: u8, capacity: u8) -> u8
@@ -109,7 +108,15 @@ fn judge_entries(n: u8, schedule: &[u8]) -> u8
 }
 
 // All rules in their order: 0, or the refusal.
-fn judge_given(object: u8, n: u8, h: u8, capacity: u8, counts: &[u8], requests: &[u8], schedule: &[u8]) -> u8
+fn judge_given(
+    object: u8,
+    n: u8,
+    h: u8,
+    capacity: u8,
+    counts: &[u8],
+    requests: &[u8],
+    schedule: &[u8],
+) -> u8
     ensures { λ r. ⌜ numbered r ≡ forgotten (givenReader (givenBy object n h capacity (now (counts .entry)) (now (requests .entry)) (now (schedule .entry))) (now (requests .entry))) ⌝ }
 {
     let numbers = judge_numbers(object, n, h, capacity);
@@ -149,7 +156,11 @@ fn put_length(out: &mut [u8], at: usize, entries: usize)
     requires { ⌜ at + 2 ≤ length (now out) ⌝ }
     ensures { λ _. ⌜ now (out .exit) ≡ pasted (now (out .entry)) at (lowFirst 2 entries) ⌝ }
 {
-    put(out, at, &[(entries % 256) as u8, (entries / 256 % 256) as u8]);
+    put(
+        out,
+        at,
+        &[(entries % 256) as u8, (entries / 256 % 256) as u8],
+    );
 }
 
 // A thread's count and its requests, which are five bytes each.
@@ -179,4 +190,52 @@ fn put_rows(out: &mut [u8], at: usize, counts: &[u8], requests: &[u8]) -> usize
         i += 1;
     }
     next
+}
+
+// The whole file, from the buffer's first byte on.
+fn put_file(
+    out: &mut [u8],
+    object: u8,
+    n: u8,
+    h: u8,
+    capacity: u8,
+    counts: &[u8],
+    requests: &[u8],
+    schedule: &[u8],
+)
+    requires { ⌜ (5 * total (now counts) ≤ length (now requests)) × (length (rawBytes (givenBy object n h capacity (now counts) (now requests) (now schedule))) ≤ length (now out)) ⌝ }
+    ensures { λ _. ⌜ now (out .exit) ≡ pasted (now (out .entry)) 0 (rawBytes (givenBy object n h capacity (now (counts .entry)) (now (requests .entry)) (now (schedule .entry)))) ⌝ }
+{
+    put_head(out, object, n, h, capacity);
+    let next = put_rows(out, 9, counts, requests);
+    put_length(out, next, schedule.len());
+    put(out, next + 2, schedule);
+}
+
+// Writes the bench file of given fields into a lent buffer, or refuses and leaves the buffer as it was.
+pub fn write(
+    object: u8,
+    n: u8,
+    h: u8,
+    capacity: u8,
+    counts: &[u8],
+    requests: &[u8],
+    schedule: &[u8],
+    out: &mut [u8],
+) -> Written
+    ensures { λ r. ⌜ WritesAs (writeOf (givenBy object n h capacity (now (counts .entry)) (now (requests .entry)) (now (schedule .entry))) (length (now (out .entry)))) r (now (out .entry)) (now (out .exit)) ⌝ }
+{
+    let refusal = judge_given(object, n, h, capacity, counts, requests, schedule);
+    if refusal != 0 {
+        return Written { refusal, length: 0 };
+    }
+    let length = 11 + counts.len() + requests.len() + schedule.len();
+    if out.len() < length {
+        return Written {
+            refusal: 13,
+            length: 0,
+        };
+    }
+    put_file(out, object, n, h, capacity, counts, requests, schedule);
+    Written { refusal: 0, length }
 }

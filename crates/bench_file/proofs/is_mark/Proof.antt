@@ -3,30 +3,22 @@ use Rattle.bench_file.proofs.Reading.{mark-at, mark-last}
 use borrow.Author.Needs.{needs}
 use Rattle.bench_file.proofs.is_mark.Statement.{statement}
 use Rattle.bench_file.proofs.is_mark.Tie as tie
-use Rattle.bench_file.proofs.is_mark.Reads as reads
-use Rattle.bench_file.proofs.is_mark.Lts as lts
 
--- src/lib.rt:71:8
 shared-slice-read-if1 : tie.Need-shared-slice-read-if1
 shared-slice-read-if1 c = search needs
 
--- src/lib.rt:72:9
 returns : tie.Need-returns
 returns c = simp (mark-at, ne-eqb _ _ (c .if1 .taken))
 
--- src/lib.rt:74:8
 shared-slice-read-if2 : tie.Need-shared-slice-read-if2
 shared-slice-read-if2 c = search needs
 
--- src/lib.rt:75:9
 returns-2 : tie.Need-returns-2
 returns-2 c = simp (mark-at, eq-eqb _ _ (c .before .before .if1 .left), ne-eqb _ _ (c .if2 .taken))
 
--- src/lib.rt:77:5
 shared-slice-read-result : tie.Need-shared-slice-read-result
 shared-slice-read-result c = search needs
 
--- src/lib.rt:67:1
 returns-3 : tie.Need-returns-3
 returns-3 c = mark-last (c .before .before .before .before .before .args .s .now) (c .before .before .before .if1 .left) (c .before .if2 .left)
 

@@ -17,7 +17,7 @@ judge-schedule-requires : tie.Need-judge-schedule-requires
 judge-schedule-requires c κs =
     let r = c .before .before .before in
     let ahead : Ahead (r .before .before .args .s .now) 9 (Reached.At (c .before .next .given .0 .0) (c .before .next .given .0 .1 .0)) =
-        rw (c .before .next .given .1) at (r .read-rows .ensures .1) in
+    rw (c .before .next .given .1) at (r .read-rows .ensures .1) in
     ahead .1
 
 enum-known-refusal : tie.Need-enum-known-refusal

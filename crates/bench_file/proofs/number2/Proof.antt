@@ -3,39 +3,28 @@ use Rattle.bench_file.proofs.Reading.{two-at}
 use borrow.Author.Needs.{needs}
 use Rattle.bench_file.proofs.number2.Statement.{statement}
 use Rattle.bench_file.proofs.number2.Tie as tie
-use Rattle.bench_file.proofs.number2.Reads as reads
-use Rattle.bench_file.proofs.number2.Lts as lts
-use Rattle.bench_file.proofs.wide.Reads as wide-reads
 
--- src/lib.rt:56:10
 shared-slice-read-wide : tie.Need-shared-slice-read-wide
 shared-slice-read-wide c = search needs
 
--- src/lib.rt:56:5
 wide-requires : tie.Need-wide-requires
 wide-requires c κs = search needs
 
--- src/lib.rt:56:32
 add-wide : tie.Need-add-wide
 add-wide c = search needs
 
--- src/lib.rt:56:30
 shared-slice-read-wide-2 : tie.Need-shared-slice-read-wide-2
 shared-slice-read-wide-2 c = search needs
 
--- src/lib.rt:56:25
 wide-requires-2 : tie.Need-wide-requires-2
 wide-requires-2 c κs = search needs
 
--- src/lib.rt:56:19
 mul-result : tie.Need-mul-result
 mul-result c = search needs
 
--- src/lib.rt:56:5
 add-result : tie.Need-add-result
 add-result c = search needs
 
--- src/lib.rt:52:1
 returns : tie.Need-returns
 returns c = let a = c .before .before .before .before .before .args in (omega (arith, two-at (a .s .now) (a .at) (c .before .before .before .before .before .pre)), omega arith)
 

@@ -3,31 +3,22 @@ use Rattle.bench_file.proofs.Reading.{four-at}
 use borrow.Author.Needs.{needs}
 use Rattle.bench_file.proofs.number4.Statement.{statement}
 use Rattle.bench_file.proofs.number4.Tie as tie
-use Rattle.bench_file.proofs.number4.Reads as reads
-use Rattle.bench_file.proofs.number4.Lts as lts
-use Rattle.bench_file.proofs.number2.Reads as number2-reads
 
--- src/lib.rt:64:5
 number2-requires : tie.Need-number2-requires
 number2-requires c κs = search needs
 
--- src/lib.rt:64:41
 add-number2 : tie.Need-add-number2
 add-number2 c = search needs
 
--- src/lib.rt:64:30
 number2-requires-2 : tie.Need-number2-requires-2
 number2-requires-2 c κs = search needs
 
--- src/lib.rt:64:22
 mul-result : tie.Need-mul-result
 mul-result c = search needs
 
--- src/lib.rt:64:5
 add-result : tie.Need-add-result
 add-result c = search needs
 
--- src/lib.rt:60:1
 returns : tie.Need-returns
 returns c = let a = c .before .before .before .args in omega (arith, four-at (a .s .now) (a .at) (c .before .before .before .pre))
 

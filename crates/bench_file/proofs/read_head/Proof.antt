@@ -43,10 +43,11 @@ returns-2 : tie.Need-returns-2
 unfolding headReader
 returns-2 c =
     let b = c .before .before .before in
-    let e = b .before .before .before in
-    (c .read-limits .ensures .0
-    ∙ simp (start-read e, byte-was (bytes (e .before)) 5 (b .before .before .byte-in .ensures) (b .b .given .1), ← c .before .kind-of .ensures),
-    c .read-limits .ensures .1)
+    let e = b .before .before .before in (
+      c .read-limits .ensures .0
+          ∙ simp (start-read e, byte-was (bytes (e .before)) 5 (b .before .before .byte-in .ensures) (b .b .given .1), ← c .before .kind-of .ensures),
+      c .read-limits .ensures .1,
+    )
 
 returns-3 : tie.Need-returns-3
 unfolding headReader

@@ -46,9 +46,10 @@ unfolding rowReader
 returns c =
     let d = c .before in
     let a = given d .args in
-    let rows = several (d .before .count .given .0 .0) (requestReader (a .object)) (drop (a .at + 1) (a .s .now)) in
-    (simp (count-read d) (c .read-requests .ensures .0 ∙ tallied-same (sumOver one) length rows one-length),
-    ahead-from (a .s .now) (a .at) (a .at + 1) (c .read-requests .result) (omega arith) (c .read-requests .ensures .1))
+    let rows = several (d .before .count .given .0 .0) (requestReader (a .object)) (drop (a .at + 1) (a .s .now)) in (
+      simp (count-read d) (c .read-requests .ensures .0 ∙ tallied-same (sumOver one) length rows one-length),
+      ahead-from (a .s .now) (a .at) (a .at + 1) (c .read-requests .result) (omega arith) (c .read-requests .ensures .1),
+    )
 
 returns-2 : tie.Need-returns-2
 unfolding rowReader

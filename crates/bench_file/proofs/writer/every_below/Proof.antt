@@ -39,9 +39,10 @@ loop-less c =
 
 loop-again : tie.Need-loop-again Inv-loop μ-loop
 loop-again c =
-    let at = c .before .before .before in
-    (search needs,
-    sym (every-more (at .before .args .row .now) (at .loop .i) _ (c .before .before .loop-test .taken) (lt-ltb _ _ (c .if1 .left))) ∙ at .loop .inv .1)
+    let at = c .before .before .before in (
+      search needs,
+      sym (every-more (at .before .args .row .now) (at .loop .i) _ (c .before .before .loop-test .taken) (lt-ltb _ _ (c .if1 .left))) ∙ at .loop .inv .1,
+    )
 
 returns-2 : tie.Need-returns-2 Inv-loop μ-loop
 returns-2 c =
