@@ -1,5 +1,6 @@
 pub mod Codec
 pub mod Each
+pub mod Examples
 pub mod Forgotten
 pub mod Judging
 pub mod Laying

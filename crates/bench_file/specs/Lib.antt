@@ -1,5 +1,6 @@
 pub mod Bytes
 pub mod Cursor
+pub mod Examples
 pub mod Layout
 pub mod Reading
 pub mod Writer
