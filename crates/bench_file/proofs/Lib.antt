@@ -1,15 +1,9 @@
 pub mod Codec
 pub mod Each
 pub mod Examples
-pub mod Forgotten
 pub mod Judging
-pub mod Laying
 pub mod Numbered
-pub mod Pasted
 pub mod Reading
 pub mod Request
 pub mod RoundTrip
-pub mod Rows
-pub mod Rules
 pub mod Turns
-pub mod Writing

@@ -3,4 +3,3 @@ pub mod Cursor
 pub mod Examples
 pub mod Layout
 pub mod Reading
-pub mod Writer

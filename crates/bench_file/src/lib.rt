@@ -1,6 +1,4 @@
-// Bench files: judged front to back, and written from their fields (writer.rt).
-pub mod writer;
-
+// Bench files of version 1, judged front to back.
 use object::Kind;
 ghost use mathlib.Core.Path.{_≡_};
 ghost use Prim.Native.Nat.{_+_, _-_, _≤_, _<_};
@@ -43,12 +41,6 @@ pub enum Judged {
         entries: usize,
     },
     Refused(u8),
-}
-
-// The refusal, 0 for none, and how many bytes were written.
-pub struct Written {
-    pub refusal: u8,
-    pub length: usize,
 }
 
 // The field of one byte at a place: 1 where it is cut off, the given refusal where it is outside its range.
@@ -215,6 +207,13 @@ fn read_requests(s: &[u8], at: usize, object: Kind, count: usize) -> Reached
         i += 1;
     }
     Reached::At { next, count: done }
+}
+
+// A row of so many requests, from its first byte on.
+pub fn read_request_row(row: &[u8], object: Kind, count: usize) -> Reached
+    ensures { λ r. ⌜ reached (now (row .entry)) r ≡ tallied (sumOver one) (several count (requestReader object) (now (row .entry))) ⌝ }
+{
+    read_requests(row, 0, object, count)
 }
 
 // A thread's count and its requests.

@@ -1,0 +1,6 @@
+pub mod Forgotten
+pub mod Laying
+pub mod Pasted
+pub mod Rows
+pub mod Rules
+pub mod Writing

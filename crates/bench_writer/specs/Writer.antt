@@ -1,0 +1,131 @@
+-- The writer: fields given as numbers and rows, judged in the order of document 01, and what is then written.
+use Prim.Native.Nat.{ℕ, _+_, _*_}
+use mathlib.Core.Path.{_≡_}
+use mathlib.Core.Bool.{Bool, true, cond, _&&_}
+use mathlib.Core.List.{List, [], _∷_, _++_}
+use lib.ListN.{length, take, drop}
+use lib.Dec.{leb, ltb}
+use Rattle.object.specs.declared.Kind.{Kind}
+use Rattle.object.specs.declared.Request.{Request}
+use Rattle.object.specs.Paper.{within, kindOf, leastCapacity, mostCapacity}
+use Rattle.bench_writer.specs.declared.Written.{Written}
+use Rattle.bench_file.specs.Reading.{Outcome, refused, read, Reader, after, _>>=_, _>>_, done, rules, several}
+use Rattle.bench_file.specs.Layout.{Fields, Judgement, accepted, refusedBy, judged, requestReader}
+use Rattle.bench_file.specs.Bytes.{lowFirst, bytesOf}
+
+-- what the writer is given: four numbers, the row of counts, the row of requests in the file's five-byte form, the schedule
+pub record Given : Type 0 where
+  pub object : ℕ
+  pub n : ℕ
+  pub h : ℕ
+  pub capacity : ℕ
+  pub counts : List ℕ
+  pub requests : List ℕ
+  pub schedule : List ℕ
+
+abbrev pub givenBy : ℕ → ℕ → ℕ → ℕ → List ℕ → List ℕ → List ℕ → Given
+givenBy object n h capacity counts requests schedule = record {
+  object = object;
+  n = n;
+  h = h;
+  capacity = capacity;
+  counts = counts;
+  requests = requests;
+  schedule = schedule;
+}
+
+unfoldable pub total : List ℕ → ℕ
+total [] = 0
+total (count ∷ counts) = count + total counts
+
+unfoldable pub every : (ℕ → Bool) → List ℕ → Bool
+every test [] = true
+every test (a ∷ l) = test a && every test l
+
+-- the requests, dealt to the threads by their counts
+unfoldable pub dealt : List ℕ → List Request → List (List Request)
+dealt [] requests = []
+dealt (count ∷ counts) requests = take count requests ∷ dealt counts (drop count requests)
+
+-- the row of counts and the row of requests as they follow each other in the file
+unfoldable pub interleaved : List ℕ → List ℕ → List ℕ
+interleaved [] requests = []
+interleaved (count ∷ counts) requests = count ∷ take (5 * count) requests ++ interleaved counts (drop (5 * count) requests)
+
+-- the file's bytes straight from what is given, for the code to lay out
+unfoldable pub rawBytes : Given → List ℕ
+rawBytes g =
+    (0x43 ∷ 0x43 ∷ 0x53 ∷ 1 ∷ 0 ∷ g .object ∷ g .n ∷ g .h ∷ g .capacity ∷ [])
+    ++ interleaved (g .counts) (g .requests)
+    ++ lowFirst 2 (length (g .schedule))
+    ++ g .schedule
+
+-- object, n, h and the capacity
+abbrev pub numberRules : ℕ → ℕ → ℕ → ℕ → List (ℕ × Bool)
+numberRules object n h capacity =
+    (4, within 0 object 2)
+    ∷ (5, within 1 n 16)
+    ∷ (6, within 1 h 255)
+    ∷ (7, within (leastCapacity (kindOf object)) capacity (mostCapacity (kindOf object)))
+    ∷ []
+
+-- a row of fewer than n counts, or of more; each count
+abbrev pub countRules : ℕ → List ℕ → List (ℕ × Bool)
+countRules n counts =
+    (1, leb n (length counts)) ∷ (12, leb (length counts) n) ∷ (8, every (λ count. leb count 16) counts) ∷ []
+
+-- too few bytes of requests for the counts, or too many
+abbrev pub sizeRules : ℕ → ℕ → List (ℕ × Bool)
+sizeRules count size = (1, leb (5 * count) size) ∷ (12, leb size (5 * count)) ∷ []
+
+-- the schedule's length; each entry
+abbrev pub entryRules : ℕ → List ℕ → List (ℕ × Bool)
+entryRules n schedule = (10, leb (length schedule) 32768) ∷ (11, every (λ thread. ltb thread n) schedule) ∷ []
+
+-- the row of requests: its size, and each request by 9
+unfoldable pub requestsReader : Kind → ℕ → List ℕ → Reader (List Request)
+requestsReader object count requests = do
+  rules (sizeRules count (length requests))
+  several count (requestReader object)
+
+-- the rules in their order; the requests are read from their row
+unfoldable pub givenReader : Given → Reader Fields
+givenReader g = do
+  rules (numberRules (g .object) (g .n) (g .h) (g .capacity))
+  rules (countRules (g .n) (g .counts))
+  requests ← requestsReader (kindOf (g .object)) (total (g .counts)) (g .requests)
+  rules (entryRules (g .n) (g .schedule))
+  done (record {
+    head = record { object = kindOf (g .object); n = g .n; h = g .h; capacity = g .capacity };
+    rows = dealt (g .counts) requests;
+    schedule = g .schedule;
+  })
+
+-- the fields that the writer is given, or the refusal
+unfoldable pub givenOf : Given → Judgement
+givenOf g = judged (givenReader g (g .requests))
+
+-- the refusal, 0 for none, and the bytes written into a buffer of so many bytes; 13 where it is too short
+pub record Writing : Type 0 where
+  pub refusal : ℕ
+  pub bytes : List ℕ
+
+abbrev pub fitted : ℕ → List ℕ → Writing
+fitted room bytes = cond (leb (length bytes) room) (record { refusal = 0; bytes = bytes }) (record { refusal = 13; bytes = [] })
+
+abbrev pub writtenAs : ℕ → Judgement → Writing
+writtenAs room (accepted f) = fitted room (bytesOf f)
+writtenAs room (refusedBy refusal) = record { refusal = refusal; bytes = [] }
+
+unfoldable pub writeOf : Given → ℕ → Writing
+writeOf g room = writtenAs room (givenOf g)
+
+-- bytes laid into a buffer from a place on, the others as they were
+abbrev pub pasted : List ℕ → ℕ → List ℕ → List ℕ
+pasted buffer at bytes = take at buffer ++ bytes ++ drop (at + length bytes) buffer
+
+-- what the service answers, and the lent buffer afterwards: what is written from its first byte on, later bytes as they were
+pub record WritesAs (writing : Writing) (answer : Written) (before after : List ℕ) : Type 0 where
+  pub refusal : answer .refusal ≡ writing .refusal
+  pub count : answer .length ≡ length (writing .bytes)
+  pub buffer : after ≡ writing .bytes ++ drop (length (writing .bytes)) before

@@ -1,0 +1,246 @@
+// Writes a bench file of version 1 from its fields.
+use bench_file::Reached;
+use object::Kind;
+ghost use mathlib.Core.Path.{_≡_};
+ghost use Prim.Native.Nat.{ℕ, _+_, _*_, _≤_, _<_};
+ghost use mathlib.Core.List.{List, _∷_, []};
+ghost use lib.ListN.{length};
+ghost use lib.Dec.{ltb};
+ghost use Rattle.object.specs.Paper.{kindOf};
+ghost use Rattle.bench_file.specs.Bytes.{headBytes, lowFirst};
+ghost use Rattle.bench_file.specs.Reading.{rules};
+ghost use Rattle.bench_file.specs.Cursor.{numberRead, forgotten, numbered};
+ghost use Rattle.bench_writer.specs.Writer.{total, every, numberRules, countRules, requestsReader, entryRules, interleaved, rawBytes, pasted, writeOf, givenBy, givenReader, WritesAs};
+
+// The refusal, 0 for none, and how many bytes were written.
+pub struct Written {
+    pub refusal: u8,
+    pub length: usize,
+}
+
+// Object, n, h and capacity: 0, or the refusal.
+fn judge_numbers(object: u8, n: u8, h: u8, capacity: u8) -> u8
+    ensures { λ r. ⌜ ((bytes : List ℕ) → numberRead bytes 0 r ≡ rules (numberRules object n h capacity) bytes) ⌝ }
+{
+    if !object::between(0, object, 2) {
+        return 4;
+    }
+    if !object::between(1, n, 16) {
+        return 5;
+    }
+    if !object::between(1, h, 255) {
+        return 6;
+    }
+    if !object::capacity_allowed(object::kind_of(object), capacity) {
+        return 7;
+    }
+    0
+}
+
+// Whether each byte of a row is below a bound.
+fn every_below(row: &[u8], bound: u8) -> bool
+    ensures { λ r. ⌜ r ≡ every (λ x. ltb x bound) (now (row .entry)) ⌝ }
+{
+    let mut i = 0usize;
+    while i < row.len() {
+        if bound <= row[i] {
+            return false;
+        }
+        i += 1;
+    }
+    true
+}
+
+// The sum of a row of at most 16 counts.
+fn total_of(counts: &[u8]) -> usize
+    requires { ⌜ length (now counts) ≤ 16 ⌝ }
+    ensures { λ r. ⌜ (r ≡ total (now (counts .entry))) × (r ≤ 16 * 255) ⌝ }
+{
+    let mut sum = 0usize;
+    let mut i = 0usize;
+    while i < counts.len() {
+        sum += counts[i] as usize;
+        i += 1;
+    }
+    sum
+}
+
+// The row of counts: 0, or the refusal.
+fn judge_counts(n: u8, counts: &[u8]) -> u8
+    ensures { λ r. ⌜ ((bytes : List ℕ) → numberRead bytes 0 r ≡ rules (countRules n (now (counts .entry))) bytes) ⌝ }
+{
+    let threads = n as usize;
+    if counts.len() < threads {
+        return 1;
+    }
+    if threads < counts.len() {
+        return 12;
+    }
+    if every_below(counts, 17) {
+        return 0;
+    }
+    8
+}
+
+// The row of requests, for so many requests: 0, or the refusal.
+fn judge_requests(object: Kind, count: usize, requests: &[u8]) -> u8
+    requires { ⌜ count ≤ 16 * 255 ⌝ }
+    ensures { λ r. ⌜ numbered r ≡ forgotten (requestsReader object count (now (requests .entry)) (now (requests .entry))) ⌝ }
+{
+    if requests.len() < 5 * count {
+        return 1;
+    }
+    if 5 * count < requests.len() {
+        return 12;
+    }
+    match bench_file::read_request_row(requests, object, count) {
+        Reached::At { next: _, count: _ } => 0,
+        Reached::Refused(refusal) => refusal,
+    }
+}
+
+// The schedule: 0, or the refusal.
+fn judge_entries(n: u8, schedule: &[u8]) -> u8
+    ensures { λ r. ⌜ ((bytes : List ℕ) → numberRead bytes 0 r ≡ rules (entryRules n (now (schedule .entry))) bytes) ⌝ }
+{
+    if 32768 < schedule.len() {
+        return 10;
+    }
+    if every_below(schedule, n) {
+        return 0;
+    }
+    11
+}
+
+// All rules in their order: 0, or the refusal.
+fn judge_given(
+    object: u8,
+    n: u8,
+    h: u8,
+    capacity: u8,
+    counts: &[u8],
+    requests: &[u8],
+    schedule: &[u8],
+) -> u8
+    ensures { λ r. ⌜ numbered r ≡ forgotten (givenReader (givenBy object n h capacity (now (counts .entry)) (now (requests .entry)) (now (schedule .entry))) (now (requests .entry))) ⌝ }
+{
+    let numbers = judge_numbers(object, n, h, capacity);
+    if numbers != 0 {
+        return numbers;
+    }
+    let row = judge_counts(n, counts);
+    if row != 0 {
+        return row;
+    }
+    let count = total_of(counts);
+    let asked = judge_requests(object::kind_of(object), count, requests);
+    if asked != 0 {
+        return asked;
+    }
+    judge_entries(n, schedule)
+}
+
+// Lays bytes into a buffer from a place on.
+fn put(out: &mut [u8], at: usize, src: &[u8])
+    requires { ⌜ at + length (now src) ≤ length (now out) ⌝ }
+    ensures { λ _. ⌜ now (out .exit) ≡ pasted (now (out .entry)) at (now (src .entry)) ⌝ }
+{
+    bytes::copy(src, &mut out[at..]);
+}
+
+// Bytes 0 to 8.
+fn put_head(out: &mut [u8], object: u8, n: u8, h: u8, capacity: u8)
+    requires { ⌜ 9 ≤ length (now out) ⌝ }
+    ensures { λ _. ⌜ now (out .exit) ≡ pasted (now (out .entry)) 0 (0x43 ∷ 0x43 ∷ 0x53 ∷ 1 ∷ 0 ∷ object ∷ n ∷ h ∷ capacity ∷ []) ⌝ }
+{
+    put(out, 0, &[0x43, 0x43, 0x53, 1, 0, object, n, h, capacity]);
+}
+
+// The schedule's length, two bytes.
+fn put_length(out: &mut [u8], at: usize, entries: usize)
+    requires { ⌜ at + 2 ≤ length (now out) ⌝ }
+    ensures { λ _. ⌜ now (out .exit) ≡ pasted (now (out .entry)) at (lowFirst 2 entries) ⌝ }
+{
+    put(
+        out,
+        at,
+        &[(entries % 256) as u8, (entries / 256 % 256) as u8],
+    );
+}
+
+// A thread's count and its requests, which are five bytes each.
+fn put_row(out: &mut [u8], at: usize, count: u8, requests: &[u8])
+    requires { ⌜ at + 1 + length (now requests) ≤ length (now out) ⌝ }
+    ensures { λ _. ⌜ now (out .exit) ≡ pasted (now (out .entry)) at (count ∷ now (requests .entry)) ⌝ }
+{
+    put(out, at, &[count]);
+    put(out, at + 1, requests);
+}
+
+// The rows of all threads, from a place on. It answers the place behind them.
+fn put_rows(out: &mut [u8], at: usize, counts: &[u8], requests: &[u8]) -> usize
+    requires { ⌜ (5 * total (now counts) ≤ length (now requests)) × (at + length (interleaved (now counts) (now requests)) ≤ length (now out)) ⌝ }
+    ensures { λ r. ⌜ r ≡ at + length (interleaved (now (counts .entry)) (now (requests .entry))) ⌝ }
+    ensures { λ _. ⌜ now (out .exit) ≡ pasted (now (out .entry)) at (interleaved (now (counts .entry)) (now (requests .entry))) ⌝ }
+{
+    let mut next = at;
+    let mut from = 0usize;
+    let mut i = 0usize;
+    while i < counts.len() {
+        let count = counts[i];
+        let end = from + 5 * (count as usize);
+        put_row(out, next, count, &requests[from..end]);
+        next += 1 + (end - from);
+        from = end;
+        i += 1;
+    }
+    next
+}
+
+// The whole file, from the buffer's first byte on.
+fn put_file(
+    out: &mut [u8],
+    object: u8,
+    n: u8,
+    h: u8,
+    capacity: u8,
+    counts: &[u8],
+    requests: &[u8],
+    schedule: &[u8],
+)
+    requires { ⌜ (5 * total (now counts) ≤ length (now requests)) × (length (rawBytes (givenBy object n h capacity (now counts) (now requests) (now schedule))) ≤ length (now out)) ⌝ }
+    ensures { λ _. ⌜ now (out .exit) ≡ pasted (now (out .entry)) 0 (rawBytes (givenBy object n h capacity (now (counts .entry)) (now (requests .entry)) (now (schedule .entry)))) ⌝ }
+{
+    put_head(out, object, n, h, capacity);
+    let next = put_rows(out, 9, counts, requests);
+    put_length(out, next, schedule.len());
+    put(out, next + 2, schedule);
+}
+
+// Writes the bench file of given fields into a lent buffer, or refuses and leaves the buffer as it was.
+pub fn write(
+    object: u8,
+    n: u8,
+    h: u8,
+    capacity: u8,
+    counts: &[u8],
+    requests: &[u8],
+    schedule: &[u8],
+    out: &mut [u8],
+) -> Written
+    ensures { λ r. ⌜ WritesAs (writeOf (givenBy object n h capacity (now (counts .entry)) (now (requests .entry)) (now (schedule .entry))) (length (now (out .entry)))) r (now (out .entry)) (now (out .exit)) ⌝ }
+{
+    let refusal = judge_given(object, n, h, capacity, counts, requests, schedule);
+    if refusal != 0 {
+        return Written { refusal, length: 0 };
+    }
+    let length = 11 + counts.len() + requests.len() + schedule.len();
+    if out.len() < length {
+        return Written {
+            refusal: 13,
+            length: 0,
+        };
+    }
+    put_file(out, object, n, h, capacity, counts, requests, schedule);
+    Written { refusal: 0, length }
+}
