@@ -12,7 +12,7 @@ use lib.Seq.{length-take-le, take-at, drop-at}
 use lib.Dec.{leb}
 use borrow.Author.Tests.{leb-true, le-leb}
 use Rattle.object.specs.Paper.{within}
-use Rattle.bench_file.specs.Reading.{Outcome, refused, read, Reader, after, done, rule, field, littleEndian, number, byte, ranged, several}
+use Rattle.bench_file.specs.Reading.{Outcome, refused, read, Reader, after, done, rule, field, littleEndian, number, byte, ruledByte, ranged, several}
 use Rattle.bench_file.specs.Bytes.{lowFirst, eachBytes, Each, Byte}
 use Rattle.bench_file.proofs.Reading.{after-read, field-whole, field-cut}
 use Rattle.bench_file.proofs.Each.{each-append, each-right, each-take, eachBytes-bytes, low-length, low-bytes, low-value, value-low, value-bound}
@@ -99,13 +99,18 @@ byte-codec = record {
   plain = λ b h. (h, tt);
 }
 
--- a byte in its range
-pub ranged-codec : (refusal least most : ℕ) → Codec (ranged refusal least most) (λ b. b ∷ []) (λ b. Byte b × ((least ≤ b) × (b ≤ most)))
-unfolding ranged
-ranged-codec refusal least most =
-    restated (chain (λ b. b) (λ a b g h. h .1) byte-codec (λ b. ruled-codec refusal (within least b most) (done-codec b)))
+-- a byte by its own rule, and in its range
+pub ruled-byte-codec : (refusal : ℕ) (test : ℕ → Bool) → Codec (ruledByte refusal test) (λ b. b ∷ []) (λ b. Byte b × (test b ≡ true))
+unfolding ruledByte
+ruled-byte-codec refusal test =
+    restated (chain (λ b. b) (λ a b g h. h .1) byte-codec (λ b. ruled-codec refusal (test b) (done-codec b)))
     (λ b. refl)
-    (λ b. (λ g. (g .0, within-range least b most .0 (g .1 .0)), λ g. (g .0, (within-range least b most .1 (g .1), refl))))
+    (λ b. (λ g. (g .0, g .1 .0), λ g. (g .0, (g .1, refl))))
+
+pub ranged-codec : (refusal least most : ℕ) → Codec (ranged refusal least most) (λ b. b ∷ []) (λ b. Byte b × ((least ≤ b) × (b ≤ most)))
+ranged-codec refusal least most =
+    restated (ruled-byte-codec refusal (λ b. within least b most)) (λ b. refl)
+    (λ b. (λ g. (g .0, within-range least b most .0 (g .1)), λ g. (g .0, within-range least b most .1 (g .1))))
 
 -- the bytes of a field, and the number that they are
 field-back : (width : ℕ) (bs a rest : List ℕ) → Each Byte bs → field width bs ≡ read a rest → ((length a ≡ width) × Each Byte a) × (bs ≡ a ++ rest)

@@ -5,13 +5,13 @@ use mathlib.Core.List.{List, [], _∷_, map}
 use lib.ListN.{length, replicate}
 use Rattle.object.specs.declared.Kind.the-variants.{Counter}
 use Rattle.object.specs.declared.Request.the-variants.{Add}
-use Rattle.bench_file.specs.Reading.{field, littleEndian, byte, ranged, several, end}
+use Rattle.bench_file.specs.Reading.{field, littleEndian, byte, ruledByte, several, end}
 use Rattle.bench_file.specs.Layout.{startReader, limitsReader, headReader, requestReader, rowReader, scheduleReader, fileReader, accepted, judgeOf}
 use Rattle.bench_file.specs.Examples.{table, sixtyFour, judgedRow, tabledRow}
 
 -- each example is given its number
 pub judged-as-tabled : map judgedRow table ≡ map tabledRow table
-unfolding judgeOf fileReader headReader startReader limitsReader rowReader requestReader scheduleReader ranged byte several field littleEndian end table
+unfolding judgeOf fileReader headReader startReader limitsReader rowReader requestReader scheduleReader ruledByte byte several field littleEndian end table
 judged-as-tabled = refl
 
 -- the 64-byte file is accepted with its two adds
@@ -20,7 +20,7 @@ pub sixty-four-accepted : judgeOf sixtyFour ≡ accepted (record {
   rows = (Add 5 ∷ Add 7 ∷ []) ∷ [];
   schedule = replicate 42 0;
 })
-unfolding judgeOf fileReader headReader startReader limitsReader rowReader requestReader scheduleReader ranged byte several field littleEndian end sixtyFour
+unfolding judgeOf fileReader headReader startReader limitsReader rowReader requestReader scheduleReader ruledByte byte several field littleEndian end sixtyFour
 sixty-four-accepted = refl
 
 pub sixty-four-bytes : length sixtyFour ≡ 64

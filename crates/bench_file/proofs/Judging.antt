@@ -1,14 +1,20 @@
 -- What the judge answers goes by the head, and then by how many requests and entries are read: `judgedAs` of `judgeOf`. Assumes nothing.
-use Prim.Native.Nat.{ℕ}
+use Prim.Native.Nat.{ℕ, _≤_}
+use native.Mathlib.Omega.{arith}
 use mathlib.Core.Path.{_≡_, refl, _∙_}
 use mathlib.Core.List.{List, [], _∷_}
 use lib.ListN.{length, drop}
 use Rattle.object.specs.declared.Request.{Request}
 use Rattle.bench_file.specs.declared.Head.{Head}
+use Rattle.bench_file.specs.declared.Judged.{Judged}
 use Rattle.bench_file.specs.declared.Judged.the-variants as Judged
 use Rattle.bench_file.specs.Reading.{Outcome, refused, read, Reader, after, _>>=_, _>>_, done, several, end}
-use Rattle.bench_file.specs.Layout.{Fields, headReader, rowReader, scheduleReader, fileReader, judged, judgeOf}
-use Rattle.bench_file.specs.Cursor.{tallied, sumOver, scheduleAs, rowsAs, judgedAs}
+use Rattle.bench_file.specs.Layout.{Fields, headReader, rowReader, scheduleReader, fileReader, Judgement, accepted, refusedBy, judged, judgeOf}
+use Rattle.bench_file.specs.Bytes.{Each, Byte}
+use Rattle.bench_file.specs.Cursor.{tallied, sumOver, scheduleAs, rowsAs}
+use Rattle.bench_file.specs.Promise.{judgedAs, judgedRefusal, Judges}
+use Rattle.bench_file.proofs.Numbered.{refused-tabled}
+use Rattle.bench_file.proofs.RoundTrip.{accepted-exactly}
 
 -- what the file's reader reads behind the schedule, and behind the rows
 abbrev behindSchedule : Head → List (List Request) → List ℕ → Reader Fields
@@ -37,3 +43,14 @@ judged-head s head e = rw e (from-rows head (several (head .n) (rowReader (head 
 pub judged-refused : (s : List ℕ) (refusal : ℕ) → headReader s ≡ refused refusal → judgedAs (judgeOf s) ≡ Judged.Refused refusal
 unfolding judgeOf fileReader
 judged-refused s refusal e = rw e
+
+-- what a judgement's number says of it
+number-of : (bs : List ℕ) (j : Judgement) → judgeOf bs ≡ j
+    → (judgedRefusal (judgedAs j) ≤ 12) × (judgedRefusal (judgedAs j) ≡ 0 → (f : Fields) × (judgeOf bs ≡ accepted f))
+number-of bs (accepted f) e = (omega arith, λ z. (f, e))
+number-of bs (refusedBy refusal) e = (omega (arith, refused-tabled bs refusal e), λ z. absurd (omega (arith, refused-tabled bs refusal e)))
+
+pub judges : (bs : List ℕ) {r : Judged} → Each Byte bs → r ≡ judgedAs (judgeOf bs) → Judges bs r
+judges bs p e =
+    let n = number-of bs (judgeOf bs) refl in
+    record { answer = e; exactly = λ f. accepted-exactly bs f p; numbers = rw e (n .0); zero = rw e (n .1) }

@@ -11,12 +11,11 @@ use lib.ListN.{length, getD, take, drop, drop-of-length-le, length-drop}
 use lib.Seq.{drop-cons, drop-drop}
 use lib.Dec.{eqb}
 use borrow.Author.Tests.{eq-eqb, ne-eqb}
-use Rattle.object.specs.Paper.{within}
 use Rattle.bench_file.specs.Layout.{isMark}
 use Rattle.bench_file.specs.Cursor.{numberRead, byteRead, reached}
 use Rattle.bench_file.specs.declared.Reached.{Reached}
 use Rattle.bench_file.specs.declared.ByteRead.{ByteRead}
-use Rattle.bench_file.specs.Reading.{Outcome, refused, read, Reader, after, rule, field, littleEndian, number, byte, ranged, several}
+use Rattle.bench_file.specs.Reading.{Outcome, refused, read, Reader, after, rule, field, littleEndian, number, byte, ruledByte, several}
 
 -- what follows a value that was read, and a refusal
 pub after-read : {A B : Type 0} {o : Outcome A} {a : A} {rest : List ℕ} (next : A → Reader B) → o ≡ read a rest → after o next ≡ next a rest
@@ -62,24 +61,25 @@ module _ (s : List ℕ) (at : ℕ) where
   unfolding byte
   byte-cut h = rw drop-of-length-le
 
-  -- a field of one byte with its range
-  pub ranged-cut : (refusal least most : ℕ) → length s ≤ at → ranged refusal least most (drop at s) ≡ refused 1
-  unfolding ranged
-  ranged-cut refusal least most h = after-refused _ (byte-cut h)
+  -- a field of one byte with its own rule
+  module _ (refusal : ℕ) (test : ℕ → Bool) where
+    pub ruled-cut : length s ≤ at → ruledByte refusal test (drop at s) ≡ refused 1
+    unfolding ruledByte
+    ruled-cut h = after-refused _ (byte-cut h)
 
-  pub ranged-is : (refusal least most : ℕ) → at < length s → within least (getD s at 0) most ≡ true → ranged refusal least most (drop at s) ≡ read (getD s at 0) (drop (at + 1) s)
-  unfolding ranged
-  ranged-is refusal least most h e = after-read _ (byte-at h) ∙ rule-kept refusal (drop (at + 1) s) _ e
+    pub ruled-is : at < length s → test (getD s at 0) ≡ true → ruledByte refusal test (drop at s) ≡ read (getD s at 0) (drop (at + 1) s)
+    unfolding ruledByte
+    ruled-is h e = after-read _ (byte-at h) ∙ rule-kept refusal (drop (at + 1) s) _ e
 
-  pub ranged-out : (refusal least most : ℕ) → at < length s → within least (getD s at 0) most ≡ false → ranged refusal least most (drop at s) ≡ refused refusal
-  unfolding ranged
-  ranged-out refusal least most h e = after-read _ (byte-at h) ∙ rule-broken refusal (drop (at + 1) s) _ e
+    pub ruled-out : at < length s → test (getD s at 0) ≡ false → ruledByte refusal test (drop at s) ≡ refused refusal
+    unfolding ruledByte
+    ruled-out h e = after-read _ (byte-at h) ∙ rule-broken refusal (drop (at + 1) s) _ e
 
 -- a byte that was read lies within the bytes
-pub inside : (s : List ℕ) (at refusal least most : ℕ) {b : ℕ} {rest : List ℕ} → ranged refusal least most (drop at s) ≡ read b rest → at < length s
-inside s at refusal least most {b} {rest} e =
+pub inside : (s : List ℕ) (at refusal : ℕ) (test : ℕ → Bool) {b : ℕ} {rest : List ℕ} → ruledByte refusal test (drop at s) ≡ read b rest → at < length s
+inside s at refusal test {b} {rest} e =
     elim (decLe (length s) at) [
-      | yes h ↦ let z : _≡_ {A = ℕ} 0 1 = cc (ranged-cut s at refusal least most h) in absurd (omega arith)
+      | yes h ↦ let z : _≡_ {A = ℕ} 0 1 = cc (ruled-cut s at refusal test h) in absurd (omega arith)
       | no h ↦ omega arith
     ]
 

@@ -7,19 +7,21 @@ use mathlib.Core.Logic.{_↔_}
 use mathlib.Core.Bool.{true, _&&_, and-eq-true-iff}
 use mathlib.Core.List.{List, [], _∷_, _++_, append-assoc, append-nil}
 use lib.ListN.{length}
-use lib.Dec.{leb, eqb, lit<, lit≤}
-use borrow.Author.Tests.{leb-true, le-leb, eqb-true}
+use lib.Dec.{leb, ltb, eqb, lit<, lit≤}
+use borrow.Author.Tests.{leb-true, le-leb, ltb-true, lt-ltb, eqb-true}
 use Rattle.object.specs.declared.Kind.{Kind}
 use Rattle.object.specs.declared.Kind.the-variants.{Queue, Stack, Counter}
 use Rattle.object.specs.declared.Request.{Request}
 use Rattle.object.specs.declared.Request.the-variants.{Put, Take, Add}
 use Rattle.object.specs.Paper.{kindNumber, kindOf, requestCode, requestValue, requestOf, leastCode, mostCode, valueAllowed, leastCapacity, mostCapacity}
+use Rattle.object.specs.Apply.{knows}
+use Rattle.object.proofs.Inverse.{number-of-kind, kind-of-number, kind-range, most-code, code-told, value-told, request-told}
 use Rattle.bench_file.specs.declared.Head.{Head}
 use Rattle.bench_file.specs.Reading.{Outcome, refused, read, several, end}
 use Rattle.bench_file.specs.Layout.{Fields, isMark, startReader, limitsReader, headReader, requestReader, rowReader, scheduleReader, fileReader, accepted, judged, judgeOf}
 use Rattle.bench_file.specs.Bytes.{lowFirst, requestBytes, eachBytes, rowBytes, headBytes, bytesOf, Each, Byte, RequestInRange, RowInRange, CapacityInRange, HeadInRange, InRange}
 use Rattle.bench_file.proofs.Each.{each-append, each-map, low-bytes}
-use Rattle.bench_file.proofs.Codec.{Codec, came, left-bytes, restated, done-codec, rule-codec, chain, ruled-codec, ranged-codec, field-codec, number-codec, several-codec}
+use Rattle.bench_file.proofs.Codec.{Codec, came, within-range, left-bytes, restated, done-codec, rule-codec, chain, ruled-codec, ruled-byte-codec, ranged-codec, field-codec, number-codec, several-codec}
 
 -- the mark and the version
 abbrev mark : List ℕ
@@ -45,22 +47,7 @@ start-codec =
     (λ u. refl)
     (λ u. (λ g. tt, λ h. ((refl, (lit< tt, (lit< tt, (lit< tt, tt)))), (refl, (lit< tt, refl)))))
 
--- the object's number
-number-of-kind : (k : Kind) → kindOf (kindNumber k) ≡ k
-number-of-kind Queue = refl
-number-of-kind Stack = refl
-number-of-kind Counter = refl
-
-pub kind-of-number : (number : ℕ) → number ≤ 2 → kindNumber (kindOf number) ≡ number
-kind-of-number zero h = refl
-kind-of-number (suc zero) h = refl
-kind-of-number (suc (suc number)) h = omega arith
-
-number-range : (k : Kind) → kindNumber k ≤ 2
-number-range Queue = lit≤ tt
-number-range Stack = lit≤ tt
-number-range Counter = lit≤ tt
-
+-- n, h and the capacity
 pub capacity-range : (k : Kind) (c : ℕ) → ((leastCapacity k ≤ c) × (c ≤ mostCapacity k)) ↔ CapacityInRange k c
 capacity-range Queue c = (λ g. g, λ h. h)
 capacity-range Stack c = (λ g. g, λ h. h)
@@ -92,29 +79,9 @@ head-codec =
     (chain (λ head. tt) (λ u head g h. refl) start-codec (λ u.
     chain (λ head. kindNumber (head .object)) (λ number head g h. rw (h .0) (kind-of-number number (g .1 .1))) (ranged-codec 4 0 2) (λ number. limits-codec (kindOf number))))
     (λ head. refl)
-    (λ head. (λ g. g .1 .1 .1, λ h. (tt, (omega (arith, number-range (head .object)), (sym (number-of-kind (head .object)), h)))))
+    (λ head. (λ g. g .1 .1 .1, λ h. (tt, (omega (arith, kind-range (head .object)), (sym (number-of-kind (head .object)), h)))))
 
 -- a request
-most-code : (object : Kind) → mostCode object ≤ 2
-most-code Queue = lit≤ tt
-most-code Stack = lit≤ tt
-most-code Counter = lit≤ tt
-
-code-told : (code value : ℕ) → code ≤ 2 → requestCode (requestOf code value) ≡ code
-code-told zero value h = refl
-code-told (suc zero) value h = refl
-code-told (suc (suc code)) value h = omega arith
-
-value-told : (code value : ℕ) → valueAllowed code value ≡ true → requestValue (requestOf code value) ≡ value
-value-told zero value e = refl
-value-told (suc zero) value e = sym (eqb-true value 0 e)
-value-told (suc (suc code)) value e = refl
-
-request-told : (r : Request) → (valueAllowed (requestCode r) (requestValue r) ≡ true) × (r ≡ requestOf (requestCode r) (requestValue r))
-request-told (Put v) = (refl, refl)
-request-told Take = (refl, refl)
-request-told (Add v) = (refl, refl)
-
 request-range : (object : Kind) (r : Request) → ((Byte (requestCode r) × ((leastCode object ≤ requestCode r) × (requestCode r ≤ mostCode object))) × (requestValue r < 256 ^ 4)) ↔ RequestInRange object r
 request-range Queue (Put v) = (λ g. g .1, λ h. omega arith)
 request-range Queue Take = (λ g. tt, λ h. omega arith)
@@ -125,6 +92,12 @@ request-range Stack (Add v) = (λ g. omega arith, λ h. absurd h)
 request-range Counter (Put v) = (λ g. omega arith, λ h. absurd h)
 request-range Counter Take = (λ g. omega arith, λ h. absurd h)
 request-range Counter (Add v) = (λ g. g .1, λ h. omega arith)
+
+-- a request in range is one that the object knows
+pub request-known : (object : Kind) (r : Request) → RequestInRange object r → knows object r ≡ true
+request-known object r h =
+    let (code, value) = request-range object r .1 h in
+    within-range (leastCode object) (requestCode r) (mostCode object) .1 (code .1)
 
 pub request-codec : (object : Kind) → Codec (requestReader object) requestBytes (RequestInRange object)
 unfolding requestReader
@@ -154,9 +127,9 @@ schedule-codec : (n : ℕ) → (1 ≤ n) × (n ≤ 16) → Codec (scheduleReader
 unfolding scheduleReader
 schedule-codec n k =
     restated
-    (chain length (λ count l g h. h .1 .0) (number-codec 2) (λ count. ruled-codec 10 (leb count 32768) (several-codec (ranged-codec 11 0 (n - 1)) count)))
+    (chain length (λ count l g h. h .1 .0) (number-codec 2) (λ count. ruled-codec 10 (leb count 32768) (several-codec (ruled-byte-codec 11 (λ thread. ltb thread n)) count)))
     (λ l. rw entries)
-    (λ l. (λ g. (leb-true _ _ (g .1 .0), each-map (λ b g. omega arith) l (g .1 .1 .1)), λ h. (omega (arith, h .0), (le-leb _ _ (h .0), (refl, each-map (λ b g. omega arith) l (h .1))))))
+    (λ l. (λ g. (leb-true _ _ (g .1 .0), each-map (λ b g. ltb-true _ _ (g .1)) l (g .1 .1 .1)), λ h. (omega (arith, h .0), (le-leb _ _ (h .0), (refl, each-map (λ b g. (omega arith, lt-ltb _ _ g)) l (h .1))))))
 
 -- the whole file
 ended : (bs : List ℕ) (u : Unit) (rest : List ℕ) → end bs ≡ read u rest → bs ≡ []
@@ -214,8 +187,9 @@ bytes-are-bytes f g =
     (low-bytes 2 (length (f .schedule))))
     (each-map (λ b h. omega (arith, g .head .n)) (f .schedule) (g .schedule))
 
-pub accepted-exactly : (bs : List ℕ) → Each Byte bs → ((f : Fields) × (judgeOf bs ≡ accepted f)) ↔ ((f : Fields) × InRange f × (bytesOf f ≡ bs))
-accepted-exactly bs p = (
-  λ a. (a .0, accepted-in-range bs (a .0) p (a .1), writes-back bs (a .0) p (a .1)),
-  λ a. (a .0, rw (← a .2) (reads-back (a .0) (a .1))),
+-- a file is accepted with given fields exactly if they are in range and it is their bytes
+pub accepted-exactly : (bs : List ℕ) (f : Fields) → Each Byte bs → (judgeOf bs ≡ accepted f) ↔ (InRange f × (bytesOf f ≡ bs))
+accepted-exactly bs f p = (
+  λ e. (accepted-in-range bs f p e, writes-back bs f p e),
+  λ g. rw (← g .1) (reads-back f (g .0)),
 )

@@ -44,6 +44,10 @@ Each P (a ∷ l) = P a × Each P l
 abbrev pub Byte : ℕ → Type 0
 Byte b = b < 256
 
+-- the refusals that a file can be given, 1 to 12
+abbrev pub Tabled : ℕ → Type 0
+Tabled refusal = (1 ≤ refusal) × (refusal ≤ 12)
+
 -- queue and stack know put and take, the counter add; a value is a number of 32 bits
 abbrev pub RequestInRange : Kind → Request → Type 0
 RequestInRange Queue (Put v) = v < 2 ^ 32

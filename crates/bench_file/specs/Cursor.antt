@@ -13,7 +13,7 @@ use Rattle.bench_file.specs.declared.Reached.{Reached}
 use Rattle.bench_file.specs.declared.Reached.the-variants as Reached
 use Rattle.bench_file.specs.declared.Judged.{Judged}
 use Rattle.bench_file.specs.declared.Judged.the-variants as Judged
-use Rattle.bench_file.specs.Layout.{Judgement, accepted, refusedBy, scheduleReader}
+use Rattle.bench_file.specs.Layout.{scheduleReader}
 use Rattle.bench_file.specs.Reading.{Outcome, refused, read}
 
 -- a refusal's number, or 0 and the place where reading goes on
@@ -77,8 +77,3 @@ scheduleAs head requests (read entries rest) = endAs head requests entries rest
 abbrev pub rowsAs : Head → Outcome ℕ → Judged
 rowsAs head (refused refusal) = Judged.Refused refusal
 rowsAs head (read requests rest) = scheduleAs head requests (tallied length (scheduleReader (head .n) rest))
-
--- the answer of `judge`: the head, how many requests in all and how many entries, or the refusal
-abbrev pub judgedAs : Judgement → Judged
-judgedAs (accepted f) = Judged.Accepted (f .head) (sumOver length (f .rows)) (length (f .schedule))
-judgedAs (refusedBy refusal) = Judged.Refused refusal

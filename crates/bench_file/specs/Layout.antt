@@ -1,14 +1,14 @@
 -- The bench file, version 1: its fields, and what a list of bytes is judged to be, front to back.
-use Prim.Native.Nat.{ℕ, _-_}
+use Prim.Native.Nat.{ℕ}
 use mathlib.Core.Bool.{Bool, true, false, _&&_}
 use mathlib.Core.List.{List, [], _∷_}
 use lib.ListN.{getD}
-use lib.Dec.{leb, eqb}
+use lib.Dec.{leb, ltb, eqb}
 use Rattle.object.specs.declared.Kind.{Kind}
 use Rattle.object.specs.declared.Request.{Request}
 use Rattle.object.specs.Paper.{kindOf, requestOf, leastCode, mostCode, valueAllowed, leastCapacity, mostCapacity}
 use Rattle.bench_file.specs.declared.Head.{Head}
-use Rattle.bench_file.specs.Reading.{Outcome, refused, read, Reader, after, _>>=_, _>>_, done, rule, field, number, byte, ranged, several, end}
+use Rattle.bench_file.specs.Reading.{Outcome, refused, read, Reader, after, _>>=_, _>>_, done, rule, field, number, byte, ruledByte, ranged, several, end}
 
 -- the fields of a bench file: object, n, h and capacity; a row of requests for each thread; the thread of each schedule entry
 pub record Fields : Type 0 where
@@ -57,12 +57,16 @@ rowReader object = do
   count ← ranged 8 0 16
   several count (requestReader object)
 
--- the schedule's length and its entries, each a field of its own and below n
+-- an entry of the schedule: a thread, below n
+abbrev pub entryReader : ℕ → Reader ℕ
+entryReader n = ruledByte 11 (λ thread. ltb thread n)
+
+-- the schedule's length and its entries, each a field of its own
 unfoldable pub scheduleReader : ℕ → Reader (List ℕ)
 scheduleReader n = do
   length ← number 2
   rule 10 (leb length 32768)
-  several length (ranged 11 0 (n - 1))
+  several length (entryReader n)
 
 -- each field in its place; at each, 1 comes before the field's own rule
 unfoldable pub fileReader : Reader Fields

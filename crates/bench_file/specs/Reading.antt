@@ -56,12 +56,16 @@ unfoldable pub byte : Reader ℕ
 byte [] = refused 1
 byte (b ∷ bytes) = read b bytes
 
--- a field of one byte with its range, both ends included, and the refusal outside it
-unfoldable pub ranged : ℕ → ℕ → ℕ → Reader ℕ
-ranged refusal least most = do
+-- a field of one byte with its own rule
+unfoldable pub ruledByte : ℕ → (ℕ → Bool) → Reader ℕ
+ruledByte refusal test = do
   b ← byte
-  rule refusal (within least b most)
+  rule refusal (test b)
   done b
+
+-- a field of one byte with its range, both ends included, and the refusal outside it
+abbrev pub ranged : ℕ → ℕ → ℕ → Reader ℕ
+ranged refusal least most = ruledByte refusal (λ b. within least b most)
 
 -- so many of a kind, one after the other
 unfoldable pub several : {A : Type 0} → ℕ → Reader A → Reader (List A)

@@ -4,8 +4,9 @@ ghost use mathlib.Core.Path.{_≡_};
 ghost use Prim.Native.Nat.{_+_, _-_, _≤_, _<_};
 ghost use lib.ListN.{length, take, drop};
 ghost use Rattle.bench_file.specs.Reading.{littleEndian, ranged, several};
-ghost use Rattle.bench_file.specs.Layout.{isMark, startReader, limitsReader, headReader, requestReader, rowReader, scheduleReader, judgeOf};
-ghost use Rattle.bench_file.specs.Cursor.{numberRead, byteRead, headRead, HeadInside, reached, Ahead, tallied, sumOver, one, scheduleAs, rowsAs, judgedAs};
+ghost use Rattle.bench_file.specs.Layout.{isMark, startReader, limitsReader, headReader, requestReader, rowReader, entryReader, scheduleReader};
+ghost use Rattle.bench_file.specs.Promise.{Judges};
+ghost use Rattle.bench_file.specs.Cursor.{numberRead, byteRead, headRead, HeadInside, reached, Ahead, tallied, sumOver, one, scheduleAs, rowsAs};
 
 // Bytes 5 to 8 of a bench file.
 pub struct Head {
@@ -254,31 +255,34 @@ fn read_rows(s: &[u8], at: usize, object: Kind, n: u8) -> Reached
     Reached::At { next, count: done }
 }
 
-// An entry of the schedule, at most the last thread's number.
-fn read_entry(s: &[u8], at: usize, last: u8) -> Reached
-    ensures { λ r. ⌜ reached (now (s .entry)) r ≡ tallied one (ranged 11 0 last (drop at (now (s .entry)))) ⌝ }
+// An entry of the schedule.
+fn read_entry(s: &[u8], at: usize, n: u8) -> Reached
+    ensures { λ r. ⌜ reached (now (s .entry)) r ≡ tallied one (entryReader n (drop at (now (s .entry)))) ⌝ }
     ensures { λ r. ⌜ Ahead (now (s .entry)) at r ⌝ }
 {
-    match byte_in(s, at, 11, 0, last) {
-        ByteRead::Byte(_) => Reached::At {
-            next: at + 1,
-            count: 1,
-        },
-        ByteRead::Refused(refusal) => Reached::Refused(refusal),
+    if s.len() <= at {
+        return Reached::Refused(1);
+    }
+    if n <= s[at] {
+        return Reached::Refused(11);
+    }
+    Reached::At {
+        next: at + 1,
+        count: 1,
     }
 }
 
 // So many entries.
-fn read_entries(s: &[u8], at: usize, last: u8, count: usize) -> Reached
+fn read_entries(s: &[u8], at: usize, n: u8, count: usize) -> Reached
     requires { ⌜ at ≤ length (now s) ⌝ }
-    ensures { λ r. ⌜ reached (now (s .entry)) r ≡ tallied (sumOver one) (several count (ranged 11 0 last) (drop at (now (s .entry)))) ⌝ }
+    ensures { λ r. ⌜ reached (now (s .entry)) r ≡ tallied (sumOver one) (several count (entryReader n) (drop at (now (s .entry)))) ⌝ }
     ensures { λ r. ⌜ Ahead (now (s .entry)) at r ⌝ }
 {
     let mut next = at;
     let mut done = 0usize;
     let mut i = 0usize;
     while i < count {
-        match read_entry(s, next, last) {
+        match read_entry(s, next, n) {
             Reached::At {
                 next: after,
                 count: more,
@@ -295,12 +299,6 @@ fn read_entries(s: &[u8], at: usize, last: u8, count: usize) -> Reached
     Reached::At { next, count: done }
 }
 
-fn last_thread(n: u8) -> u8
-    ensures { λ r. ⌜ r ≡ n - 1 ⌝ }
-{
-    if n == 0 { 0 } else { n - 1 }
-}
-
 // The schedule's length and its entries.
 fn read_schedule(s: &[u8], at: usize, n: u8) -> Reached
     requires { ⌜ at ≤ length (now s) ⌝ }
@@ -314,8 +312,7 @@ fn read_schedule(s: &[u8], at: usize, n: u8) -> Reached
     if 32768 < entries {
         return Reached::Refused(10);
     }
-    let last = last_thread(n);
-    read_entries(s, at + 2, last, entries as usize)
+    read_entries(s, at + 2, n, entries as usize)
 }
 
 // From the schedule on, with the requests counted.
@@ -352,7 +349,7 @@ fn judge_rows(s: &[u8], head: Head) -> Judged
 
 // Judges any bytes as a bench file, front to back.
 pub fn judge(file: &[u8]) -> Judged
-    ensures { λ r. ⌜ r ≡ judgedAs (judgeOf (now (file .entry))) ⌝ }
+    ensures { λ r. ⌜ Judges (now (file .entry)) r ⌝ }
 {
     match read_head(file) {
         HeadRead::Whole(head) => judge_rows(file, head),

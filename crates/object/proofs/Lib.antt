@@ -1,3 +1,4 @@
+pub mod Inverse
 pub mod Plainly
 pub mod Refusal
 pub mod Table

@@ -1,14 +1,15 @@
--- `bench_file::byte_in` meets its contract: each return is one law of `ranged` at a place. Assumes nothing.
+-- `bench_file::byte_in` meets its contract: each return is one law of `ruledByte` at a place. Assumes nothing.
 use mathlib.Core.Path.{sym, _∙_}
+use Rattle.object.specs.Paper.{within}
 use borrow.Author.Needs.{needs}
-use Rattle.bench_file.proofs.Reading.{ranged-cut, ranged-is, ranged-out}
+use Rattle.bench_file.proofs.Reading.{ruled-cut, ruled-is, ruled-out}
 use Rattle.bench_file.proofs.byte_in.Statement.{statement}
 use Rattle.bench_file.proofs.byte_in.Tie as tie
 
 returns : tie.Need-returns
 returns c =
     let a = c .before .before .args in
-    sym (ranged-cut (a .s .now) (a .at) (a .refusal) (a .least) (a .most) (c .if1 .taken))
+    sym (ruled-cut (a .s .now) (a .at) (a .refusal) (λ b. within (a .least) b (a .most)) (c .if1 .taken))
 
 shared-slice-read-b : tie.Need-shared-slice-read-b
 shared-slice-read-b c = search needs
@@ -19,13 +20,13 @@ between-requires c κs = search needs
 returns-2 : tie.Need-returns-2
 returns-2 c =
     let a = c .before .before .before .before .before .args in
-    sym (ranged-is (a .s .now) (a .at) (a .refusal) (a .least) (a .most) (c .before .before .before .if1 .left)
+    sym (ruled-is (a .s .now) (a .at) (a .refusal) (λ b. within (a .least) b (a .most)) (c .before .before .before .if1 .left)
     (sym (c .before .between .ensures) ∙ c .if2 .taken))
 
 returns-3 : tie.Need-returns-3
 returns-3 c =
     let a = c .before .before .before .before .before .args in
-    sym (ranged-out (a .s .now) (a .at) (a .refusal) (a .least) (a .most) (c .before .before .before .if1 .left)
+    sym (ruled-out (a .s .now) (a .at) (a .refusal) (λ b. within (a .least) b (a .most)) (c .before .before .before .if1 .left)
     (sym (c .before .between .ensures) ∙ c .if2 .left))
 
 pub byte-in-spec : {M : Type 1} → statement M

@@ -2,17 +2,17 @@
 use Prim.Native.Nat.{_-_}
 use native.Mathlib.Omega.{arith}
 use borrow.Author.Needs.{needs}
-use Rattle.bench_file.specs.Reading.{ranged}
+use Rattle.bench_file.specs.Layout.{entryReader}
 use Rattle.bench_file.specs.Cursor.{one}
 use Rattle.bench_file.proofs.Turns.{Turning, begins, turns, refuses, ends}
 use Rattle.bench_file.proofs.read_entries.Statement.{statement}
 use Rattle.bench_file.proofs.read_entries.Tie as tie
 
 abbrev Inv-loop : tie.InvT-loop
-Inv-loop s at last count next₀ done₀ i₀ next done i = Turning (ranged 11 0 last) one s at count next done i
+Inv-loop s at n count next₀ done₀ i₀ next done i = Turning (entryReader n) one s at count next done i
 
 abbrev μ-loop : tie.MeasureT-loop
-μ-loop s at last count next₀ done₀ i₀ next done i = count - i
+μ-loop s at n count next₀ done₀ i₀ next done i = count - i
 
 loop-holds : tie.Need-loop-holds Inv-loop μ-loop
 loop-holds c = begins _ _ _ _ _ (c .before .pre)

@@ -71,7 +71,7 @@ returns-3 c =
     let e = m .before .before in
     let d = e .before .before .before .before in
     let f = byte-was (bytes d) 8 (c .before .before .before .byte-in3 .ensures) (c .before .capacity .given .1) in
-    (simp (n-read d, h-read e, ← m .most-capacity .ensures, ← m .before .least-capacity .ensures, f), inside (bytes d) 8 7 _ _ f)
+    (simp (n-read d, h-read e, ← m .most-capacity .ensures, ← m .before .least-capacity .ensures, f), inside (bytes d) 8 7 _ f)
 
 returns-4 : tie.Need-returns-4
 unfolding limitsReader

@@ -24,7 +24,7 @@ code-read c =
     (byte-was (given c .args .s .now) (given c .args .at) (c .before .before .before .byte-in .ensures) (c .before .b .given .1))
 
 code-inside : (c : tie.After-known-told) → given c .args .at < length (given c .args .s .now)
-code-inside c = inside (given c .args .s .now) (given c .args .at) 9 (leastCode (given c .args .object)) (mostCode (given c .args .object)) (code-read c)
+code-inside c = inside (given c .args .s .now) (given c .args .at) 9 _ (code-read c)
 
 least-code-requires : tie.Need-least-code-requires
 least-code-requires c κs = search needs

@@ -19,7 +19,7 @@ count-read : (c : tie.After-known-told) → ranged 8 0 16 (drop (given c .args .
 count-read c = byte-was (given c .args .s .now) (given c .args .at) (c .before .before .before .byte-in .ensures) (c .before .count .given .1)
 
 count-inside : (c : tie.After-known-told) → given c .args .at < length (given c .args .s .now)
-count-inside c = inside (given c .args .s .now) (given c .args .at) 8 0 16 (count-read c)
+count-inside c = inside (given c .args .s .now) (given c .args .at) 8 _ (count-read c)
 
 byte-in-requires : tie.Need-byte-in-requires
 byte-in-requires c κs = search needs

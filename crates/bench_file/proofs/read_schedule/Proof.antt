@@ -1,13 +1,13 @@
 -- `bench_file::read_schedule` meets its contract: a length, and then so many entries. Assumes nothing.
-use Prim.Native.Nat.{ℕ, _+_, _-_}
-use mathlib.Core.Path.{_≡_, sym, ap, _∙_}
+use Prim.Native.Nat.{_+_}
+use mathlib.Core.Path.{_∙_}
 use native.Mathlib.Omega.{arith}
 use lib.ListN.{length, drop}
 use borrow.Author.Needs.{needs}
 use borrow.Author.Tests.{le-leb, lt-leb}
-use Rattle.bench_file.specs.Reading.{ranged, several}
-use Rattle.bench_file.specs.Layout.{scheduleReader}
-use Rattle.bench_file.specs.Cursor.{tallied, sumOver, one}
+use Rattle.bench_file.specs.Reading.{several}
+use Rattle.bench_file.specs.Layout.{entryReader, scheduleReader}
+use Rattle.bench_file.specs.Cursor.{sumOver, one}
 use Rattle.bench_file.proofs.Reading.{field-at, field-cut-at}
 use Rattle.bench_file.proofs.Turns.{tallied-same, one-length, ahead-from}
 use Rattle.bench_file.proofs.read_schedule.Statement.{statement}
@@ -31,9 +31,6 @@ returns-2 c =
     let start = c .before .before .before .before in
     (simp (field-at (start .args .s .now) (start .args .at) 2 (omega arith), ← c .before .number2 .ensures .0, lt-leb _ _ (c .if2 .taken)), tt)
 
-last-thread-requires : tie.Need-last-thread-requires
-last-thread-requires c κs = search needs
-
 add-read-entries : tie.Need-add-read-entries
 add-read-entries c = search needs
 
@@ -46,16 +43,13 @@ read-entries-requires c κs = search needs
 returns-3 : tie.Need-returns-3
 unfolding scheduleReader
 returns-3 c =
-    let e = c .before .before in
+    let e = c .before in
     let start = e .before .before .before .before in
     let s = start .args .s .now in
-    let entries = several (e .before .number2 .result) (ranged 11 0 (start .args .n - 1)) (drop (start .args .at + 2) s) in (
-      simp (field-at s (start .args .at) 2 (omega arith), ← e .before .number2 .ensures .0, le-leb _ _ (e .if2 .left))
-          (c .read-entries .ensures .0
-          ∙ ap (λ (last : ℕ). tallied (sumOver one) (several (e .before .number2 .result) (ranged 11 0 last) (drop (start .args .at + 2) s))) (c .before .last-thread .ensures)
-          ∙ tallied-same (sumOver one) length entries one-length),
-      ahead-from s (start .args .at) (start .args .at + 2) (c .read-entries .result) (omega arith) (c .read-entries .ensures .1),
-    )
+    let entries = several (e .before .number2 .result) (entryReader (start .args .n)) (drop (start .args .at + 2) s) in
+    (simp (field-at s (start .args .at) 2 (omega arith), ← e .before .number2 .ensures .0, le-leb _ _ (e .if2 .left))
+    (c .read-entries .ensures .0 ∙ tallied-same (sumOver one) length entries one-length),
+    ahead-from s (start .args .at) (start .args .at + 2) (c .read-entries .result) (omega arith) (c .read-entries .ensures .1))
 
 pub read-schedule-spec : {M : Type 1} → statement M
 read-schedule-spec =
@@ -65,7 +59,6 @@ read-schedule-spec =
     returns
     number2-requires
     returns-2
-    last-thread-requires
     add-read-entries
     cast-read-entries
     read-entries-requires
