@@ -5,6 +5,7 @@ use mathlib.Core.Path.{_≡_, refl, sym, ap, _∙_}
 use mathlib.Core.Bool.{Bool, true, false, _&&_}
 use mathlib.Core.List.{List, [], _∷_}
 use lib.ListN.{length, getD, drop, drop-of-length-le}
+use Rattle.bench_file.specs.Cursor.{sumOver}
 use Rattle.bench_writer.specs.Writer.{total, every}
 use Rattle.bench_file.proofs.Reading.{cons-at}
 
@@ -27,9 +28,9 @@ module _ (row : List ℕ) (i : ℕ) where
   every-end test h = rw drop-of-length-le
 
   pub total-more : i < length row → total (drop i row) ≡ getD row i 0 + total (drop (i + 1) row)
-  unfolding total
+  unfolding sumOver
   total-more h = rw cons-at
 
   pub total-end : length row ≤ i → total (drop i row) ≡ 0
-  unfolding total
+  unfolding sumOver
   total-end h = rw drop-of-length-le

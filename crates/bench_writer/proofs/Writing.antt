@@ -8,24 +8,26 @@ use mathlib.Core.Path.{_≡_, refl, sym, ap, _∙_}
 use mathlib.Core.Bool.{Bool, true, and-eq-true-iff}
 use mathlib.Core.List.{List, [], _∷_, _++_, append-nil}
 use lib.ListN.{length, take, drop, length-append, length-take, length-drop, drop-of-length-le}
-use lib.Seq.{length-take-le}
+use lib.Seq.{length-take-le, take-at}
 use lib.Dec.{leb, ltb}
 use borrow.Author.Tests.{leb-true, ltb-true, le-leb, lt-leb}
 use Rattle.object.specs.declared.Kind.{Kind}
 use Rattle.object.specs.declared.Request.{Request}
 use Rattle.object.specs.Paper.{within, kindOf, requestValue, leastCapacity, mostCapacity}
+use Rattle.object.proofs.Inverse.{kind-of-number}
 use Rattle.bench_file.specs.Reading.{Outcome, refused, read, Reader, after, done, rules, several}
 use Rattle.bench_file.specs.Layout.{Fields, Judgement, accepted, refusedBy, judged, judgeOf, requestReader}
 use Rattle.bench_file.specs.Bytes.{lowFirst, requestBytes, eachBytes, rowBytes, headBytes, bytesOf, Each, Byte, RequestInRange, RowInRange, CapacityInRange, InRange}
 use Rattle.bench_file.specs.Cursor.{sumOver}
-use Rattle.bench_writer.specs.Writer.{Given, total, every, dealt, interleaved, rawBytes, numberRules, countRules, sizeRules, entryRules, requestsReader, givenReader, givenOf, fitted, writtenAs, writeOf}
+use Rattle.bench_writer.specs.Writer.{Given, total, every, dealt, interleaved, rawBytes, numberRules, countRules, sizeRules, entryRules, requestsReader, givenReader, givenOf, Writing, fitted, writtenAs, writeOf, WritesAs}
+use Rattle.bench_writer.specs.declared.Written.{Written}
 use Rattle.bench_file.proofs.Each.{each-take, each-drop, each-map, eachBytes-length, eachBytes-take, eachBytes-drop, low-length}
 use Rattle.bench_file.proofs.Codec.{came, within-range, several-codec}
 use Rattle.bench_file.proofs.Numbered.{Numbered, done-numbered, after-numbered, several-numbered, request-numbered}
 use Rattle.bench_writer.proofs.Rules.{rules-kept, rules-numbered}
-use Rattle.bench_file.proofs.RoundTrip.{kind-of-number, capacity-range, request-codec, judged-came, reads-back}
+use Rattle.bench_file.proofs.RoundTrip.{capacity-range, request-codec, judged-came, reads-back}
 
-request-length : (r : Request) → length (requestBytes r) ≡ 5
+pub request-length : (r : Request) → length (requestBytes r) ≡ 5
 request-length r = ap suc (low-length 4 (requestValue r))
 
 -- the requests, dealt to the threads by their counts
@@ -43,7 +45,7 @@ dealt-range object (count ∷ counts) l p q = (
 )
 
 dealt-rows : (counts : List ℕ) (l : List Request) → length l ≡ total counts → eachBytes rowBytes (dealt counts l) ≡ interleaved counts (eachBytes requestBytes l)
-unfolding dealt total eachBytes interleaved
+unfolding dealt sumOver eachBytes interleaved
 dealt-rows [] l e = refl
 dealt-rows (count ∷ counts) l e =
     let h : count ≤ length l = omega arith in
@@ -139,7 +141,7 @@ module _ (g : Given) (f : Fields) where
   given-in-range p e = taken-range (taken g f p e)
 
 total-bound : (counts : List ℕ) → Each (λ count. count ≤ 16) counts → total counts ≤ 16 * length counts
-unfolding total
+unfolding sumOver
 total-bound [] p = omega arith
 total-bound (count ∷ counts) p = omega (arith, p .0, total-bound counts (p .1))
 
@@ -191,7 +193,7 @@ judged-zero (read f rest) e = let z : _≡_ {A = ℕ} 0 1 = cc in absurd (omega 
 
 given-never : (g : Given) → givenOf g ≡ refusedBy 0 → ⊥
 unfolding givenOf
-given-never g e = given-numbered g .never (g .requests) (judged-zero _ e)
+given-never g e = omega (arith, given-numbered g .tabled (g .requests) 0 (judged-zero _ e))
 
 -- what is written without a refusal
 fitted-whole : (room : ℕ) (bytes : List ℕ) → fitted room bytes .refusal ≡ 0 → fitted room bytes .bytes ≡ bytes
@@ -224,3 +226,17 @@ unfolding writeOf
 written-accepted g room p h =
     let (f, e, b) = written-came g room (givenOf g) refl h in
     (f, e, rw b (reads-back f (given-in-range g f p e)))
+
+-- the whole promise, from what is written and the buffer after it
+pub writes : (g : Given) (answer : Written) (before after : List ℕ) {w : Writing} → Each Byte (g .requests) → writeOf g (length before) ≡ w
+    → answer .refusal ≡ w .refusal → answer .length ≡ length (w .bytes) → after ≡ w .bytes ++ drop (length (w .bytes)) before
+    → WritesAs g answer before after
+writes g answer before after {w} p e refusal count buffer = record {
+  refusal = rw e refusal;
+  count = rw e count;
+  buffer = rw e buffer;
+  meant = λ z.
+      let (f, given, judged) = written-accepted g (length before) p (ap (λ (w : Writing). w .refusal) e ∙ sym refusal ∙ z) in
+      let whole : take (answer .length) after ≡ writeOf g (length before) .bytes = rw (count, buffer, e) (take-at (w .bytes) (drop (length (w .bytes)) before) (length (w .bytes)) refl) in
+      (f, given, rw whole judged);
+}

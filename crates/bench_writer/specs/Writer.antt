@@ -2,16 +2,17 @@
 use Prim.Native.Nat.{ℕ, _+_, _*_}
 use mathlib.Core.Path.{_≡_}
 use mathlib.Core.Bool.{Bool, true, cond, _&&_}
-use mathlib.Core.List.{List, [], _∷_, _++_}
+use mathlib.Core.List.{List, [], _∷_, _++_, map}
 use lib.ListN.{length, take, drop}
 use lib.Dec.{leb, ltb}
 use Rattle.object.specs.declared.Kind.{Kind}
 use Rattle.object.specs.declared.Request.{Request}
-use Rattle.object.specs.Paper.{within, kindOf, leastCapacity, mostCapacity}
+use Rattle.object.specs.Paper.{within, kindNumber, kindOf, leastCapacity, mostCapacity}
 use Rattle.bench_writer.specs.declared.Written.{Written}
 use Rattle.bench_file.specs.Reading.{Outcome, refused, read, Reader, after, _>>=_, _>>_, done, rules, several}
-use Rattle.bench_file.specs.Layout.{Fields, Judgement, accepted, refusedBy, judged, requestReader}
-use Rattle.bench_file.specs.Bytes.{lowFirst, bytesOf}
+use Rattle.bench_file.specs.Layout.{Fields, Judgement, accepted, refusedBy, judged, judgeOf, requestReader}
+use Rattle.bench_file.specs.Cursor.{sumOver}
+use Rattle.bench_file.specs.Bytes.{lowFirst, requestBytes, eachBytes, bytesOf}
 
 -- what the writer is given: four numbers, the row of counts, the row of requests in the file's five-byte form, the schedule
 pub record Given : Type 0 where
@@ -34,9 +35,8 @@ givenBy object n h capacity counts requests schedule = record {
   schedule = schedule;
 }
 
-unfoldable pub total : List ℕ → ℕ
-total [] = 0
-total (count ∷ counts) = count + total counts
+abbrev pub total : List ℕ → ℕ
+total counts = sumOver (λ count. count) counts
 
 unfoldable pub every : (ℕ → Bool) → List ℕ → Bool
 every test [] = true
@@ -105,6 +105,13 @@ givenReader g = do
 unfoldable pub givenOf : Given → Judgement
 givenOf g = judged (givenReader g (g .requests))
 
+-- given fields, as the writer takes them
+abbrev pub givenFrom : Fields → Given
+givenFrom f =
+    givenBy (kindNumber (f .head .object)) (f .head .n) (f .head .h) (f .head .capacity) (map length (f .rows))
+    (eachBytes (eachBytes requestBytes) (f .rows))
+    (f .schedule)
+
 -- the refusal, 0 for none, and the bytes written into a buffer of so many bytes; 13 where it is too short
 pub record Writing : Type 0 where
   pub refusal : ℕ
@@ -124,8 +131,12 @@ writeOf g room = writtenAs room (givenOf g)
 abbrev pub pasted : List ℕ → ℕ → List ℕ → List ℕ
 pasted buffer at bytes = take at buffer ++ bytes ++ drop (at + length bytes) buffer
 
--- what the service answers, and the lent buffer afterwards: what is written from its first byte on, later bytes as they were
-pub record WritesAs (writing : Writing) (answer : Written) (before after : List ℕ) : Type 0 where
-  pub refusal : answer .refusal ≡ writing .refusal
-  pub count : answer .length ≡ length (writing .bytes)
-  pub buffer : after ≡ writing .bytes ++ drop (length (writing .bytes)) before
+-- what the service answers to given fields, and the lent buffer before and after it
+pub record WritesAs (g : Given) (answer : Written) (before after : List ℕ) : Type 0 where
+  -- the refusal, 0 for none, and the length written
+  pub refusal : answer .refusal ≡ writeOf g (length before) .refusal
+  pub count : answer .length ≡ length (writeOf g (length before) .bytes)
+  -- what is written stands from the first byte on, later bytes are as they were
+  pub buffer : after ≡ writeOf g (length before) .bytes ++ drop (length (writeOf g (length before) .bytes)) before
+  -- what is written is judged accepted, with the fields that were given
+  pub meant : answer .refusal ≡ 0 → (f : Fields) × (givenOf g ≡ accepted f) × (judgeOf (take (answer .length) after) ≡ accepted f)

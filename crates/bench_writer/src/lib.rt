@@ -10,7 +10,7 @@ ghost use Rattle.object.specs.Paper.{kindOf};
 ghost use Rattle.bench_file.specs.Bytes.{headBytes, lowFirst};
 ghost use Rattle.bench_file.specs.Reading.{rules};
 ghost use Rattle.bench_file.specs.Cursor.{numberRead, forgotten, numbered};
-ghost use Rattle.bench_writer.specs.Writer.{total, every, numberRules, countRules, requestsReader, entryRules, interleaved, rawBytes, pasted, writeOf, givenBy, givenReader, WritesAs};
+ghost use Rattle.bench_writer.specs.Writer.{total, every, numberRules, countRules, requestsReader, entryRules, interleaved, rawBytes, pasted, givenBy, givenReader, WritesAs};
 
 // The refusal, 0 for none, and how many bytes were written.
 pub struct Written {
@@ -228,7 +228,7 @@ pub fn write(
     schedule: &[u8],
     out: &mut [u8],
 ) -> Written
-    ensures { λ r. ⌜ WritesAs (writeOf (givenBy object n h capacity (now (counts .entry)) (now (requests .entry)) (now (schedule .entry))) (length (now (out .entry)))) r (now (out .entry)) (now (out .exit)) ⌝ }
+    ensures { λ r. ⌜ WritesAs (givenBy object n h capacity (now (counts .entry)) (now (requests .entry)) (now (schedule .entry))) r (now (out .entry)) (now (out .exit)) ⌝ }
 {
     let refusal = judge_given(object, n, h, capacity, counts, requests, schedule);
     if refusal != 0 {

@@ -5,12 +5,13 @@ use native.Mathlib.Nat.{zero-add}
 use native.Mathlib.Omega.{arith}
 use lib.ListN.{length}
 use borrow.Author.Needs.{needs}
+use Rattle.bench_file.specs.Bytes.{Each, Byte}
 use Rattle.bench_file.specs.Layout.{Fields}
 use Rattle.bench_writer.specs.Writer.{Given, givenBy, givenReader, rawBytes}
 use Rattle.bench_file.proofs.Each.{each-at}
 use Rattle.bench_writer.proofs.Forgotten.{numbered-refused, numbered-read}
 use Rattle.bench_writer.proofs.Laying.{interleaved-length, raw-length}
-use Rattle.bench_writer.proofs.Writing.{Takes, takes, write-refused, write-short, write-whole}
+use Rattle.bench_writer.proofs.Writing.{Takes, takes, write-refused, write-short, write-whole, writes}
 use Rattle.bench_writer.proofs.write.Statement.{statement}
 use Rattle.bench_writer.proofs.write.Tie as tie
 
@@ -22,12 +23,15 @@ file c =
     let a = given c .args in
     givenBy (a .object) (a .n) (a .h) (a .capacity) (a .counts .now) (a .requests .now) (a .schedule .now)
 
+bytes : (c : tie.After-judge-given) → Each Byte (given c .args .requests .now)
+bytes c = each-at (given c .args .requests .now) (λ i. omega (arith, c .before .before .before .shared-slice-known2 .given i))
+
 -- what no rule refuses is taken, with its fields
 taken : (c : tie.Else1) → (f : Fields) × Takes (file (c .before)) f
 taken c =
     let g = file (c .before) in
     let (f, rest, e) = numbered-read (givenReader g (g .requests)) _ (c .before .judge-given .ensures) (c .if1 .left) in
-    (f, takes g f rest (each-at (g .requests) (λ i. omega (arith, c .before .before .before .before .shared-slice-known2 .given i))) e)
+    (f, takes g f rest (bytes (c .before)) e)
 
 size : (c : tie.Else1) → let g = file (c .before) in length (rawBytes g) ≡ 11 + length (g .counts) + length (g .requests) + length (g .schedule)
 size c =
@@ -41,8 +45,9 @@ judge-given-requires c κs = search needs
 returns : tie.Need-returns
 returns c =
     let g = file (c .before) in
-    rw (write-refused g _ _ (numbered-refused (givenReader g (g .requests)) _ (c .before .judge-given .ensures) (c .if1 .taken)))
-    (record { refusal = refl; count = refl; buffer = refl })
+    writes g _ _ _ (bytes (c .before))
+    (write-refused g _ _ (numbered-refused (givenReader g (g .requests)) _ (c .before .judge-given .ensures) (c .if1 .taken)))
+    refl refl refl
 
 add-length : tie.Need-add-length
 add-length c =
@@ -59,8 +64,9 @@ add-length-3 c =
 returns-2 : tie.Need-returns-2
 returns-2 c =
     let d = c .before in
-    rw (write-short (file (d .before)) (taken d .0) (length (given (d .before) .args .out .now)) (taken d .1) (omega (arith, size d, c .if2 .taken)))
-    (record { refusal = refl; count = refl; buffer = refl })
+    writes (file (d .before)) _ _ _ (bytes (d .before))
+    (write-short (file (d .before)) (taken d .0) (length (given (d .before) .args .out .now)) (taken d .1) (omega (arith, size d, c .if2 .taken)))
+    refl refl refl
 
 put-file-requires : tie.Need-put-file-requires
 put-file-requires c κs =
@@ -75,8 +81,9 @@ returns-3 c =
     let p = c .before .before in
     let e = p .before .before in
     let d = e .before in
-    rw (write-whole (file (d .before)) (taken d .0) (length (given (d .before) .args .out .now)) (taken d .1) (omega (arith, size d, e .if2 .left)))
-    (record { refusal = refl; count = omega (arith, size d); buffer = p .put-file .ensures ∙ rw zero-add })
+    writes (file (d .before)) _ _ _ (bytes (d .before))
+    (write-whole (file (d .before)) (taken d .0) (length (given (d .before) .args .out .now)) (taken d .1) (omega (arith, size d, e .if2 .left)))
+    refl (omega (arith, size d)) (p .put-file .ensures ∙ rw zero-add)
 
 pub write-spec : {M : Type 1} → statement M
 write-spec =

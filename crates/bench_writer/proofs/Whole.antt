@@ -1,0 +1,104 @@
+-- The writer takes all fields in range: given them, it writes their bytes, and nothing else where it has room. Assumes nothing.
+use Prim.Native.Nat.{ℕ, _+_, _*_, _≤_}
+use native.Mathlib.Nat.{le-refl}
+use native.Mathlib.Omega.{arith}
+use mathlib.Core.Path.{_≡_, refl, sym, ap, _∙_}
+use mathlib.Core.Bool.{Bool, true, _&&_}
+use mathlib.Core.List.{List, [], _∷_, _++_, map, append-nil}
+use lib.ListN.{length, take, drop, length-append, length-map}
+use lib.Seq.{take-append-seam, drop-append-seam}
+use lib.Dec.{leb, ltb}
+use borrow.Author.Tests.{le-leb, lt-ltb}
+use Rattle.object.specs.declared.Kind.{Kind}
+use Rattle.object.specs.declared.Request.{Request}
+use Rattle.object.specs.Paper.{kindNumber, kindOf}
+use Rattle.object.proofs.Inverse.{number-of-kind, kind-range}
+use Rattle.bench_file.specs.Reading.{Outcome, read, rules, several}
+use Rattle.bench_file.specs.Layout.{Fields, accepted, requestReader}
+use Rattle.bench_file.specs.Bytes.{requestBytes, eachBytes, bytesOf, Each, RequestInRange, RowInRange, InRange}
+use Rattle.bench_file.specs.Cursor.{sumOver}
+use Rattle.bench_file.proofs.Each.{each-append, each-map, eachBytes-append, eachBytes-length}
+use Rattle.bench_file.proofs.Codec.{within-range, several-codec}
+use Rattle.bench_file.proofs.RoundTrip.{capacity-range, request-codec}
+use Rattle.bench_writer.specs.Writer.{Given, givenFrom, total, every, dealt, numberRules, countRules, sizeRules, entryRules, requestsReader, givenReader, givenOf, fitted, writeOf}
+use Rattle.bench_writer.proofs.Rules.{rules-pass}
+use Rattle.bench_writer.proofs.Writing.{request-length}
+
+-- the requests of all threads, one row after the other
+flat : List (List Request) → List Request
+flat [] = []
+flat (row ∷ rows) = row ++ flat rows
+
+flat-bytes : (rows : List (List Request)) → eachBytes requestBytes (flat rows) ≡ eachBytes (eachBytes requestBytes) rows
+unfolding flat eachBytes
+flat-bytes [] = refl
+flat-bytes (row ∷ rows) = eachBytes-append requestBytes row (flat rows) ∙ ap (λ (l : List ℕ). eachBytes requestBytes row ++ l) (flat-bytes rows)
+
+flat-length : (rows : List (List Request)) → length (flat rows) ≡ total (map length rows)
+unfolding flat sumOver
+flat-length [] = refl
+flat-length (row ∷ rows) = length-append row (flat rows) ∙ ap (λ (n : ℕ). length row + n) (flat-length rows)
+
+flat-range : (object : Kind) (rows : List (List Request)) → Each (RowInRange object) rows → Each (RequestInRange object) (flat rows)
+unfolding flat
+flat-range object [] p = tt
+flat-range object (row ∷ rows) p = each-append (RequestInRange object) row (flat rows) (p .0 .requests) (flat-range object rows (p .1))
+
+flat-dealt : (rows : List (List Request)) → dealt (map length rows) (flat rows) ≡ rows
+unfolding flat dealt
+flat-dealt [] = refl
+flat-dealt (row ∷ rows) = rw (take-append-seam, drop-append-seam, flat-dealt rows)
+
+each-every : (test : ℕ → Bool) (l : List ℕ) → Each (λ a. test a ≡ true) l → every test l ≡ true
+unfolding every
+each-every test [] p = refl
+each-every test (a ∷ l) p = rw (p .0, each-every test l (p .1))
+
+counts-range : (object : Kind) (rows : List (List Request)) → Each (RowInRange object) rows → Each (λ count. leb count 16 ≡ true) (map length rows)
+counts-range object [] p = tt
+counts-range object (row ∷ rows) p = (le-leb _ _ (p .0 .count), counts-range object rows (p .1))
+
+module _ (f : Fields) (g : InRange f) where
+  row-length : length (givenFrom f .requests) ≡ 5 * total (map length (f .rows))
+  row-length = ap length (sym (flat-bytes (f .rows))) ∙ eachBytes-length requestBytes 5 request-length (flat (f .rows)) ∙ ap (λ (n : ℕ). 5 * n) (flat-length (f .rows))
+
+  requests-read : several (total (map length (f .rows))) (requestReader (f .head .object)) (givenFrom f .requests) ≡ read (flat (f .rows)) []
+  requests-read =
+      let e = several-codec (request-codec (f .head .object)) (total (map length (f .rows))) .forth (flat (f .rows)) [] (flat-length (f .rows), flat-range (f .head .object) (f .rows) (g .rows)) in
+      rw (append-nil, flat-bytes) at e
+
+  numbers : Each (λ r. r .1 ≡ true) (numberRules (kindNumber (f .head .object)) (f .head .n) (f .head .h) (f .head .capacity))
+  numbers =
+      let object = f .head .object in
+      let (least, most) = capacity-range object (f .head .capacity) .1 (g .head .capacity) in
+      (within-range 0 (kindNumber object) 2 .1 (omega (arith, kind-range object)),
+      (within-range 1 _ 16 .1 (g .head .n),
+      (within-range 1 _ 255 .1 (g .head .h),
+      (rw number-of-kind (within-range _ _ _ .1 (least, most)), tt))))
+
+  counts : Each (λ r. r .1 ≡ true) (countRules (f .head .n) (map length (f .rows)))
+  counts =
+      let e : length (map length (f .rows)) ≡ f .head .n = length-map (f .rows) length ∙ g .threads in
+      (le-leb (f .head .n) (length (map length (f .rows))) (omega arith), (le-leb (length (map length (f .rows))) (f .head .n) (omega arith), (each-every _ _ (counts-range (f .head .object) (f .rows) (g .rows)), tt)))
+
+  sizes : Each (λ r. r .1 ≡ true) (sizeRules (total (map length (f .rows))) (length (givenFrom f .requests)))
+  sizes =
+      let size = length (givenFrom f .requests) in
+      let asked = 5 * total (map length (f .rows)) in
+      (le-leb asked size (omega (arith, row-length)), (le-leb size asked (omega (arith, row-length)), tt))
+
+  entries : Each (λ r. r .1 ≡ true) (entryRules (f .head .n) (f .schedule))
+  entries = (le-leb _ _ (g .entries), (each-every _ _ (each-map (λ thread h. lt-ltb _ _ h) (f .schedule) (g .schedule)), tt))
+
+  -- fields in range are taken as they were given
+  pub given-whole : givenOf (givenFrom f) ≡ accepted f
+  unfolding givenOf givenReader requestsReader
+  given-whole =
+      let bs = givenFrom f .requests in
+      let g = givenFrom f in
+      rw (rules-pass (numberRules (g .object) (g .n) (g .h) (g .capacity)) bs numbers, rules-pass (countRules (g .n) (g .counts)) bs counts, rules-pass (sizeRules (total (g .counts)) (length bs)) bs sizes, number-of-kind, requests-read, rules-pass (entryRules (g .n) (g .schedule)) [] entries, flat-dealt)
+
+  -- and their bytes are what is written, where there is room
+  pub written-whole : (room : ℕ) → writeOf (givenFrom f) room ≡ fitted room (bytesOf f)
+  unfolding writeOf
+  written-whole room = rw given-whole
