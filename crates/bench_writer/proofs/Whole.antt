@@ -70,11 +70,16 @@ module _ (f : Fields) (g : InRange f) where
   numbers : Each (λ r. r .1 ≡ true) (numberRules (kindNumber (f .head .object)) (f .head .n) (f .head .h) (f .head .capacity))
   numbers =
       let object = f .head .object in
-      let (least, most) = capacity-range object (f .head .capacity) .1 (g .head .capacity) in
-      (within-range 0 (kindNumber object) 2 .1 (omega (arith, kind-range object)),
-      (within-range 1 _ 16 .1 (g .head .n),
-      (within-range 1 _ 255 .1 (g .head .h),
-      (rw number-of-kind (within-range _ _ _ .1 (least, most)), tt))))
+      let (least, most) = capacity-range object (f .head .capacity) .1 (g .head .capacity) in (
+        within-range 0 (kindNumber object) 2 .1 (omega (arith, kind-range object)),
+        (
+          within-range 1 _ 16 .1 (g .head .n),
+          (
+            within-range 1 _ 255 .1 (g .head .h),
+            (rw number-of-kind (within-range _ _ _ .1 (least, most)), tt),
+          ),
+        ),
+      )
 
   counts : Each (λ r. r .1 ≡ true) (countRules (f .head .n) (map length (f .rows)))
   counts =

@@ -46,4 +46,3 @@ pub request-told : (r : Request) → (valueAllowed (requestCode r) (requestValue
 request-told (Put v) = (refl, refl)
 request-told Take = (refl, refl)
 request-told (Add v) = (refl, refl)
-

@@ -3,7 +3,7 @@ use Prim.Native.Nat.{ℕ, _+_, _-_, _%_, _^_}
 use mathlib.Core.Path.{_≡_}
 use mathlib.Core.Bool.{Bool, cond, _&&_}
 use mathlib.Core.List.{List, _++_}
-use lib.ListN.{getD, take, drop, set}
+use lib.ListN.{getD, take, drop, set, replicate}
 use lib.Dec.{T, leb, ltb, eqb}
 use Rattle.object.specs.declared.Kind.{Kind}
 use Rattle.object.specs.declared.Kind.the-variants.{Queue, Stack, Counter}
@@ -19,6 +19,10 @@ use Rattle.object.specs.Plain.{Plain, plainStep}
 -- what the storage holds: the first `held` places, and the sum
 abbrev pub holds : Object → Plain
 holds ob = record { values = take (ob .held) (ob .items); sum = ob .sum }
+
+-- at first no place is used and the sum is 0
+abbrev pub freshObject : Object
+freshObject = record { items = replicate 64 0; held = 0; sum = 0 }
 
 -- a capacity that the object allows, and items held 0 to the capacity
 abbrev pub heldInRange : Kind → ℕ → ℕ → Bool

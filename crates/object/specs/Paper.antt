@@ -21,7 +21,7 @@ kindNumber Queue = 0
 kindNumber Stack = 1
 kindNumber Counter = 2
 
--- the kind with that number, for a number that is at most 2
+-- the kind with that number, for a number that is at most 2; a larger one, which 4 refuses, gives the counter
 abbrev pub kindOf : ℕ → Kind
 kindOf number = getD (Queue ∷ Stack ∷ []) number Counter
 
@@ -37,7 +37,7 @@ requestValue (Put v) = v
 requestValue Take = 0
 requestValue (Add v) = v
 
--- the request with that code and value, for a code that is at most 2
+-- the request with that code and value, for a code that is at most 2; a larger one, which 9 refuses, gives an add
 abbrev pub requestOf : ℕ → ℕ → Request
 requestOf code value = getD (Put value ∷ Take ∷ []) code (Add value)
 

@@ -69,3 +69,10 @@ plainStep Stack capacity (Add v) p = respond Empty p
 plainStep Counter capacity (Put v) p = respond Empty p
 plainStep Counter capacity Take p = respond Empty p
 plainStep Counter capacity (Add v) p = plainAdd v p
+
+-- the answers to requests that are fed one after the other, from what the object holds
+unfoldable pub answersFrom : Kind → ℕ → Plain → List Request → List Answer
+answersFrom kind capacity p [] = []
+answersFrom kind capacity p (request ∷ requests) =
+    let r = plainStep kind capacity request p in
+    r .answer ∷ answersFrom kind capacity (r .after) requests

@@ -2,7 +2,8 @@
 ghost use mathlib.Core.Path.{_≡_};
 ghost use Prim.Native.Nat.{_≤_};
 ghost use Rattle.object.specs.Paper.{within, kindNumber, kindOf, requestCode, requestValue, requestOf, answerMark, answerValue, leastCode, mostCode, codeKnown, valueAllowed, leastCapacity, mostCapacity, capacityAllowed};
-ghost use Rattle.object.specs.Apply.{answered, refusedWith, putOf, takeFirstOf, takeLastOf, takeOf, addOf, movedDown, heldInRange, appliedTo, applyOf, AppliesPlainly};
+ghost use Rattle.object.specs.Plain.{fresh};
+ghost use Rattle.object.specs.Apply.{freshObject, holds, answered, refusedWith, putOf, takeFirstOf, takeLastOf, takeOf, addOf, movedDown, heldInRange, appliedTo, applyOf, AppliesPlainly};
 
 // What the object byte of a bench file names.
 pub enum Kind {
@@ -39,6 +40,7 @@ pub struct Applied {
     pub object: Object,
 }
 
+// Whether x is in a range, both ends included.
 pub fn between(least: u8, x: u8, most: u8) -> bool
     ensures { λ r. ⌜ r ≡ within least x most ⌝ }
 {
@@ -48,6 +50,7 @@ pub fn between(least: u8, x: u8, most: u8) -> bool
     x <= most
 }
 
+// The kind of an object byte that was judged by 4; from 2 on it is the counter.
 pub fn kind_of(number: u8) -> Kind
     ensures { λ r. ⌜ r ≡ kindOf number ⌝ }
 {
@@ -68,6 +71,7 @@ pub fn kind_number(kind: Kind) -> u8
     }
 }
 
+// The request of a code that was judged by 9; from 2 on it is an add, and a take drops its value.
 pub fn request_of(code: u8, value: u32) -> Request
     ensures { λ r. ⌜ r ≡ requestOf code value ⌝ }
 {
@@ -181,7 +185,19 @@ pub fn capacity_allowed(kind: Kind, capacity: u8) -> bool
     between(least_capacity(kind), capacity, most_capacity(kind))
 }
 
-pub fn object_in_range(kind: Kind, capacity: u8, held: u8) -> bool
+// The object as it is at the start.
+pub fn fresh() -> Object
+    ensures { λ r. ⌜ (r ≡ freshObject) × (holds r ≡ fresh) ⌝ }
+{
+    Object {
+        items: [0; 64],
+        held: 0,
+        sum: 0,
+    }
+}
+
+// A capacity that the object allows, and no more items held than that.
+pub fn held_in_range(kind: Kind, capacity: u8, held: u8) -> bool
     ensures { λ r. ⌜ r ≡ heldInRange kind capacity held ⌝ }
 {
     if capacity_allowed(kind, capacity) {
@@ -272,6 +288,7 @@ fn take_last(object: Object) -> Applied
     answered(Answer::Value(object.items[last]), after)
 }
 
+// The counter knows no take.
 fn take(kind: Kind, object: Object) -> Applied
     requires { ⌜ object .held ≤ 64 ⌝ }
     ensures { λ r. ⌜ r ≡ takeOf kind object ⌝ }
@@ -312,7 +329,7 @@ pub fn apply(kind: Kind, capacity: u8, object: Object, request: Request) -> Appl
     ensures { λ r. ⌜ r ≡ applyOf kind capacity object request ⌝ }
     ensures { λ r. ⌜ AppliesPlainly kind capacity object request r ⌝ }
 {
-    if !object_in_range(kind, capacity, object.held) {
+    if !held_in_range(kind, capacity, object.held) {
         return refused_with(14, object);
     }
     applied_to(kind, capacity, request, object)

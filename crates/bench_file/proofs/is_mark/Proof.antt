@@ -1,3 +1,4 @@
+-- `bench_file::is_mark` meets its contract: the three bytes, one after the other. Assumes nothing.
 use borrow.Author.Tests.{eq-eqb, ne-eqb}
 use Rattle.bench_file.proofs.Reading.{mark-at, mark-last}
 use borrow.Author.Needs.{needs}

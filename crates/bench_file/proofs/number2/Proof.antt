@@ -1,3 +1,4 @@
+-- `bench_file::number2` meets its contract: the lower byte first. Assumes nothing.
 use native.Mathlib.Omega.{arith}
 use Rattle.bench_file.proofs.Reading.{two-at}
 use borrow.Author.Needs.{needs}

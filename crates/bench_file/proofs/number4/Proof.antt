@@ -1,3 +1,4 @@
+-- `bench_file::number4` meets its contract: the lower two bytes first. Assumes nothing.
 use native.Mathlib.Omega.{arith}
 use Rattle.bench_file.proofs.Reading.{four-at}
 use borrow.Author.Needs.{needs}

@@ -46,10 +46,11 @@ returns-3 c =
     let e = c .before in
     let start = e .before .before .before .before in
     let s = start .args .s .now in
-    let entries = several (e .before .number2 .result) (entryReader (start .args .n)) (drop (start .args .at + 2) s) in
-    (simp (field-at s (start .args .at) 2 (omega arith), ← e .before .number2 .ensures .0, le-leb _ _ (e .if2 .left))
-    (c .read-entries .ensures .0 ∙ tallied-same (sumOver one) length entries one-length),
-    ahead-from s (start .args .at) (start .args .at + 2) (c .read-entries .result) (omega arith) (c .read-entries .ensures .1))
+    let entries = several (e .before .number2 .result) (entryReader (start .args .n)) (drop (start .args .at + 2) s) in (
+      simp (field-at s (start .args .at) 2 (omega arith), ← e .before .number2 .ensures .0, le-leb _ _ (e .if2 .left))
+          (c .read-entries .ensures .0 ∙ tallied-same (sumOver one) length entries one-length),
+      ahead-from s (start .args .at) (start .args .at + 2) (c .read-entries .result) (omega arith) (c .read-entries .ensures .1),
+    )
 
 pub read-schedule-spec : {M : Type 1} → statement M
 read-schedule-spec =

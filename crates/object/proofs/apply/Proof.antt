@@ -19,8 +19,8 @@ both : (kind : Kind) (capacity : ℕ) (ob : Object) (request : Request) {r : App
     → (r ≡ applyOf kind capacity ob request) × AppliesPlainly kind capacity ob request r
 both kind capacity ob request long e = (e, rw e (applies-plainly kind capacity ob request long))
 
-object-in-range-requires : tie.Need-object-in-range-requires
-object-in-range-requires c κs = search needs
+held-in-range-requires : tie.Need-held-in-range-requires
+held-in-range-requires c κs = search needs
 
 refused-with-requires : tie.Need-refused-with-requires
 refused-with-requires c κs = search needs
@@ -30,12 +30,12 @@ returns c =
     let e = c .before in
     let a = e .before .before .args in
     both (a .kind) (a .capacity) (a .object) (a .request) (search needs)
-    (simp (fails (e .before .object-in-range .ensures) (e .if1 .taken), c .refused-with .ensures))
+    (simp (fails (e .before .held-in-range .ensures) (e .if1 .taken), c .refused-with .ensures))
 
 applied-to-requires : tie.Need-applied-to-requires
 applied-to-requires c κs =
     let a = c .before .before .args in
-    let t = passes (c .before .object-in-range .ensures) (c .if1 .left) in
+    let t = passes (c .before .held-in-range .ensures) (c .if1 .left) in
     let b = range-bounds (a .kind) (a .capacity) (a .object .held) (rw t tt) in
     (b .0, omega arith)
 
@@ -44,9 +44,9 @@ returns-2 c =
     let e = c .before in
     let a = e .before .before .args in
     both (a .kind) (a .capacity) (a .object) (a .request) (search needs)
-    (simp (passes (e .before .object-in-range .ensures) (e .if1 .left), c .applied-to .ensures))
+    (simp (passes (e .before .held-in-range .ensures) (e .if1 .left), c .applied-to .ensures))
 
 pub apply-spec : {M : Type 1} → statement M
 apply-spec =
     tie.close
-    (tie.spec object-in-range-requires refused-with-requires returns applied-to-requires returns-2)
+    (tie.spec held-in-range-requires refused-with-requires returns applied-to-requires returns-2)
