@@ -78,7 +78,7 @@ takeOf Queue ob = takeFirstOf ob
 takeOf Stack ob = takeLastOf ob
 takeOf Counter ob = refusedWith 9 ob
 
--- what each request does
+-- what each request does to an object that knows it
 abbrev pub served : Kind → ℕ → Request → Object → Applied
 served kind capacity (Put v) ob = putOf capacity v ob
 served kind capacity Take ob = takeOf kind ob
