@@ -16,6 +16,7 @@ unfoldable pub lowFirst : ℕ → ℕ → List ℕ
 lowFirst zero number = []
 lowFirst (suc width) number = number % 256 ∷ lowFirst width (number / 256)
 
+-- a request's code and its value
 abbrev pub requestBytes : Request → List ℕ
 requestBytes request = requestCode request ∷ lowFirst 4 (requestValue request)
 
@@ -32,6 +33,7 @@ rowBytes row = length row ∷ eachBytes requestBytes row
 abbrev pub headBytes : Head → List ℕ
 headBytes head = 0x43 ∷ 0x43 ∷ 0x53 ∷ 1 ∷ 0 ∷ kindNumber (head .object) ∷ head .n ∷ head .h ∷ head .capacity ∷ []
 
+-- the whole file
 unfoldable pub bytesOf : Fields → List ℕ
 bytesOf f =
     headBytes (f .head) ++ eachBytes rowBytes (f .rows) ++ lowFirst 2 (length (f .schedule)) ++ f .schedule
@@ -41,6 +43,7 @@ abbrev pub Each : {A : Type 0} → (A → Type 0) → List A → Type 0
 Each P [] = Unit
 Each P (a ∷ l) = P a × Each P l
 
+-- a byte's value
 abbrev pub Byte : ℕ → Type 0
 Byte b = b < 256
 

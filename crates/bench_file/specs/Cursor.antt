@@ -20,19 +20,21 @@ use Rattle.bench_file.specs.Reading.{Outcome, refused, read}
 abbrev pub numberRead : List ℕ → ℕ → ℕ → Outcome Unit
 numberRead bytes next refusal = cond (eqb refusal 0) (read tt (drop next bytes)) (refused refusal)
 
--- the same where only the refusal matters
+-- an outcome of which only the refusal matters
 abbrev pub forgotten : {A : Type 0} → Outcome A → Outcome Unit
 forgotten (refused refusal) = refused refusal
 forgotten (read a rest) = read tt []
 
+-- a refusal's number, 0 for none, as such an outcome
 abbrev pub numbered : ℕ → Outcome Unit
 numbered refusal = cond (eqb refusal 0) (read tt []) (refused refusal)
 
--- the byte at a place
+-- a byte at a place, or its refusal
 abbrev pub byteRead : List ℕ → ℕ → ByteRead → Outcome ℕ
 byteRead bytes at (ByteRead.Byte b) = read b (drop (at + 1) bytes)
 byteRead bytes at (ByteRead.Refused refusal) = refused refusal
 
+-- bytes 0 to 8, or their refusal
 abbrev pub headRead : List ℕ → HeadRead → Outcome Head
 headRead bytes (HeadRead.Whole head) = read head (drop 9 bytes)
 headRead bytes (HeadRead.Refused refusal) = refused refusal
@@ -57,10 +59,12 @@ abbrev pub tallied : {A : Type 0} → (A → ℕ) → Outcome A → Outcome ℕ
 tallied tally (refused refusal) = refused refusal
 tallied tally (read a rest) = read (tally a) rest
 
+-- the sum of what each counts
 unfoldable pub sumOver : {A : Type 0} → (A → ℕ) → List A → ℕ
 sumOver tally [] = 0
 sumOver tally (a ∷ l) = tally a + sumOver tally l
 
+-- each counts 1
 abbrev pub one : {A : Type 0} → A → ℕ
 one a = 1
 

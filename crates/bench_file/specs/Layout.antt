@@ -64,9 +64,9 @@ entryReader n = ruledByte 11 (λ thread. ltb thread n)
 -- the schedule's length and its entries, each a field of its own
 unfoldable pub scheduleReader : ℕ → Reader (List ℕ)
 scheduleReader n = do
-  length ← number 2
-  rule 10 (leb length 32768)
-  several length (entryReader n)
+  entries ← number 2
+  rule 10 (leb entries 32768)
+  several entries (entryReader n)
 
 -- each field in its place; at each, 1 comes before the field's own rule
 unfoldable pub fileReader : Reader Fields

@@ -17,13 +17,13 @@ pub struct Head {
 }
 
 // A field of one byte, or the refusal.
-pub enum ByteRead {
+enum ByteRead {
     Byte(u8),
     Refused(u8),
 }
 
 // Bytes 0 to 8, or the refusal.
-pub enum HeadRead {
+enum HeadRead {
     Whole(Head),
     Refused(u8),
 }
@@ -58,6 +58,7 @@ fn byte_in(s: &[u8], at: usize, refusal: u8, least: u8, most: u8) -> ByteRead
     ByteRead::Refused(refusal)
 }
 
+// A byte as a wider number.
 fn wide(x: u8) -> u32
     ensures { λ r. ⌜ (r ≡ x) × (r < 256) ⌝ }
 {
@@ -80,6 +81,7 @@ fn number4(s: &[u8], at: usize) -> u32
     number2(s, at) + 65536 * number2(s, at + 2)
 }
 
+// Whether the first three bytes are the mark.
 fn is_mark(s: &[u8]) -> bool
     requires { ⌜ 3 ≤ length (now s) ⌝ }
     ensures { λ r. ⌜ r ≡ isMark (take 3 (now (s .entry))) ⌝ }

@@ -35,9 +35,11 @@ givenBy object n h capacity counts requests schedule = record {
   schedule = schedule;
 }
 
+-- how many requests the counts ask for
 abbrev pub total : List ℕ → ℕ
 total counts = sumOver (λ count. count) counts
 
+-- a test that each of a row passes
 unfoldable pub every : (ℕ → Bool) → List ℕ → Bool
 every test [] = true
 every test (a ∷ l) = test a && every test l
@@ -112,11 +114,12 @@ givenFrom f =
     (eachBytes (eachBytes requestBytes) (f .rows))
     (f .schedule)
 
--- the refusal, 0 for none, and the bytes written into a buffer of so many bytes; 13 where it is too short
+-- the refusal, 0 for none, and the bytes written
 pub record Writing : Type 0 where
   pub refusal : ℕ
   pub bytes : List ℕ
 
+-- into a buffer of so many bytes; 13 where it is too short
 abbrev pub fitted : ℕ → List ℕ → Writing
 fitted room bytes = cond (leb (length bytes) room) (record { refusal = 0; bytes = bytes }) (record { refusal = 13; bytes = [] })
 
@@ -124,6 +127,7 @@ abbrev pub writtenAs : ℕ → Judgement → Writing
 writtenAs room (accepted f) = fitted room (bytesOf f)
 writtenAs room (refusedBy refusal) = record { refusal = refusal; bytes = [] }
 
+-- what is written for given fields into a buffer of so many bytes
 unfoldable pub writeOf : Given → ℕ → Writing
 writeOf g room = writtenAs room (givenOf g)
 

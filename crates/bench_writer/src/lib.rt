@@ -112,7 +112,7 @@ fn judge_entries(n: u8, schedule: &[u8]) -> u8
     11
 }
 
-// All rules in their order: 0, or the refusal.
+// All rules but the last, 13, in their order: 0, or the refusal.
 fn judge_given(
     object: u8,
     n: u8,
