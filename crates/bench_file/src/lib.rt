@@ -215,6 +215,7 @@ fn read_requests(s: &[u8], at: usize, object: Kind, count: usize) -> Reached
 // A row of so many requests, from its first byte on.
 pub fn read_request_row(row: &[u8], object: Kind, count: usize) -> Reached
     ensures { λ r. ⌜ reached (now (row .entry)) r ≡ tallied (sumOver one) (several count (requestReader object) (now (row .entry))) ⌝ }
+    ensures { λ r. ⌜ Ahead (now (row .entry)) 0 r ⌝ }
 {
     read_requests(row, 0, object, count)
 }

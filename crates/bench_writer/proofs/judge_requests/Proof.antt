@@ -53,14 +53,14 @@ returns-3 c =
     let d = c .before .before .before in
     let a = given d .args in
     simp (le-leb _ _ (d .before .if1 .left), le-leb _ _ (d .if2 .left))
-    (sym (sym (forgotten-tallied (sumOver one) (asked d)) ∙ ap forgotten (reached-was (a .requests .now) (c .before .before .read-request-row .ensures) (c .enum-told .given .1))))
+    (sym (sym (forgotten-tallied (sumOver one) (asked d)) ∙ ap forgotten (reached-was (a .requests .now) (c .before .before .read-request-row .ensures .0) (c .enum-told .given .1))))
 
 returns-4 : tie.Need-returns-4
 unfolding requestsReader
 returns-4 c =
     let d = c .before .before .before .before in
     let a = given d .args in
-    let e = reached-was (a .requests .now) (c .before .before .before .read-request-row .ensures) (c .before .refusal .given .1) in
+    let e = reached-was (a .requests .now) (c .before .before .before .read-request-row .ensures .0) (c .before .refusal .given .1) in
     simp (le-leb _ _ (d .before .if1 .left), le-leb _ _ (d .if2 .left), ne-eqb _ _ (tallied-numbered (sumOver one) (several-numbered (request-numbered (a .object)) (a .count)) (a .requests .now) e))
     (sym (sym (forgotten-tallied (sumOver one) (asked d)) ∙ ap forgotten e))
 
