@@ -34,7 +34,7 @@ fn entries() {
     judged(b"32,768 entries and a byte", &most);
 }
 
-pub fn run() {
+pub(crate) fn run() {
     cuts(b"example 1", b"CC");
     cuts(b"example 2", b"CCT");
     cuts(b"example 3", b"CCS\x02\0");

@@ -70,7 +70,7 @@ fn requests(name: &[u8], file: [u8; 18]) {
     sweep(name, b"value 3", file, 14, &[1]);
 }
 
-pub fn run() {
+pub(crate) fn run() {
     starts(b"queue", small(0, 1, 0));
     numbers(b"queue", small(0, 1, 0));
     numbers(b"stack", small(1, 1, 0));

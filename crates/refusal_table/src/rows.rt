@@ -97,7 +97,7 @@ fn faults() {
     case([0, 2, 1, 64, 1, 1, 0, 1], 2, 10, 2, 25);
 }
 
-pub fn run() {
+pub(crate) fn run() {
     lengths();
     largest();
     faults();

@@ -4,11 +4,11 @@ use libc::STDOUT_FILENO;
 ghost use Prim.Native.Nat.{_<_, _≤_};
 ghost use lib.ListN.{length};
 
-pub fn text(s: &[u8]) {
+pub(crate) fn text(s: &[u8]) {
     io::write_all(STDOUT_FILENO, s);
 }
 
-pub fn number(x: u64) {
+pub(crate) fn number(x: u64) {
     text(b" ");
     io::print_decimal(STDOUT_FILENO, x);
 }
@@ -17,11 +17,11 @@ fn wide(x: u8) -> u64 {
     x as u64
 }
 
-pub fn byte(x: u8) {
+pub(crate) fn byte(x: u8) {
     number(wide(x));
 }
 
-pub fn bytes(s: &[u8]) {
+pub(crate) fn bytes(s: &[u8]) {
     let mut i = 0;
     while i < s.len() {
         byte(s[i]);
@@ -30,7 +30,7 @@ pub fn bytes(s: &[u8]) {
 }
 
 // The first bytes of a slice, or all of them where it has fewer.
-pub fn first(s: &[u8], count: usize) -> &[u8] {
+pub(crate) fn first(s: &[u8], count: usize) -> &[u8] {
     if count <= s.len() {
         return &s[0..count];
     }
@@ -38,7 +38,7 @@ pub fn first(s: &[u8], count: usize) -> &[u8] {
 }
 
 // A row of bytes becomes a pattern repeated.
-pub fn fill(row: &mut [u8], pattern: &[u8])
+pub(crate) fn fill(row: &mut [u8], pattern: &[u8])
     requires { ⌜ 0 < length (now pattern) ⌝ }
 {
     let mut i = 0;
@@ -49,7 +49,7 @@ pub fn fill(row: &mut [u8], pattern: &[u8])
 }
 
 // Refusal 0 with the object, n, h, the capacity, the requests and the entries that the judge found; or the refusal.
-pub fn judged(file: &[u8]) {
+pub(crate) fn judged(file: &[u8]) {
     text(b" judged");
     match bench_file::judge(file) {
         Judged::Accepted {
@@ -68,7 +68,7 @@ pub fn judged(file: &[u8]) {
 }
 
 // A file judged whole, and cut at each byte.
-pub fn cuts(name: &[u8], file: &[u8]) {
+pub(crate) fn cuts(name: &[u8], file: &[u8]) {
     text(name);
     text(b":");
     judged(file);
@@ -110,7 +110,7 @@ fn held(out: &[u8]) {
 
 // Lends the writer the first bytes of a buffer that holds 0xAA only, and shows its refusal, the length written and what the whole
 // buffer holds then.
-pub fn written(
+pub(crate) fn written(
     numbers: [u8; 4],
     counts: &[u8],
     requests: &[u8],
