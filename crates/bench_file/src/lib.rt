@@ -1,7 +1,7 @@
 // Bench files of version 1, judged front to back.
 use object::Kind;
 ghost use mathlib.Core.Path.{_≡_};
-ghost use Prim.Native.Nat.{_+_, _-_, _≤_, _<_};
+ghost use Prim.Native.Nat.{_+_, _≤_, _<_};
 ghost use lib.ListN.{length, take, drop};
 ghost use Rattle.bench_file.specs.Reading.{littleEndian, ranged, several};
 ghost use Rattle.bench_file.specs.Layout.{isMark, startReader, limitsReader, headReader, requestReader, rowReader, entryReader, scheduleReader};

@@ -2,12 +2,11 @@
 use bench_file::Reached;
 use object::Kind;
 ghost use mathlib.Core.Path.{_≡_};
-ghost use Prim.Native.Nat.{ℕ, _+_, _*_, _≤_, _<_};
+ghost use Prim.Native.Nat.{ℕ, _+_, _*_, _≤_};
 ghost use mathlib.Core.List.{List, _∷_, []};
 ghost use lib.ListN.{length};
 ghost use lib.Dec.{ltb};
-ghost use Rattle.object.specs.Paper.{kindOf};
-ghost use Rattle.bench_file.specs.Bytes.{headBytes, lowFirst};
+ghost use Rattle.bench_file.specs.Bytes.{lowFirst};
 ghost use Rattle.bench_file.specs.Reading.{rules};
 ghost use Rattle.bench_file.specs.Cursor.{numberRead, forgotten, numbered};
 ghost use Rattle.bench_writer.specs.Writer.{total, every, numberRules, countRules, requestsReader, entryRules, interleaved, rawBytes, pasted, givenBy, givenReader, WritesAs};
