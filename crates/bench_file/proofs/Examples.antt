@@ -1,7 +1,6 @@
 -- Document 01's refusal table and its 64-byte file, judged by computation. Assumes nothing.
-use Prim.Native.Nat.{ℕ}
 use mathlib.Core.Path.{_≡_, refl}
-use mathlib.Core.List.{List, [], _∷_, _++_, map}
+use mathlib.Core.List.{[], _∷_, _++_, map}
 use lib.ListN.{length, replicate}
 use Rattle.object.specs.declared.Kind.the-variants.{Counter}
 use Rattle.object.specs.declared.Request.the-variants.{Add}

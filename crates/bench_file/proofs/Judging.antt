@@ -1,7 +1,7 @@
 -- What the judge answers goes by the head, and then by how many requests and entries are read: `judgedAs` of `judgeOf`. Assumes nothing.
 use Prim.Native.Nat.{ℕ, _≤_}
 use native.Mathlib.Omega.{arith}
-use mathlib.Core.Path.{_≡_, refl, _∙_}
+use mathlib.Core.Path.{_≡_, refl}
 use mathlib.Core.List.{List, [], _∷_}
 use lib.ListN.{length, drop}
 use Rattle.object.specs.declared.Request.{Request}
@@ -53,4 +53,11 @@ number-of bs (refusedBy refusal) e = (omega (arith, refused-tabled bs refusal e)
 pub judges : (bs : List ℕ) {r : Judged} → Each Byte bs → r ≡ judgedAs (judgeOf bs) → Judges bs r
 judges bs p e =
     let n = number-of bs (judgeOf bs) refl in
-    record { answer = e; exactly = λ f. accepted-exactly bs f p; numbers = rw e (n .0); zero = rw e (n .1) }
+    record {
+      answer = e;
+      exactly = λ f. accepted-exactly bs f p;
+      counts = λ f a. rw (e, a) (refl, refl);
+      refused = λ refusal a. rw (e, a) (refl, refl, refl);
+      numbers = rw e (n .0);
+      zero = rw e (n .1);
+    }

@@ -6,4 +6,5 @@ pub mod Numbered
 pub mod Reading
 pub mod Request
 pub mod RoundTrip
+pub mod Size
 pub mod Turns

@@ -1,12 +1,12 @@
 -- Laws of the readers of specs/Reading.antt at a place of a file: what a field finds there. Assumes nothing.
-use Prim.Native.Nat.{ℕ, zero, suc, _+_, _*_, _≤_, _<_, _^_, suc-le-suc}
+use Prim.Native.Nat.{ℕ, zero, suc, _+_, _*_, _≤_, _<_}
 use native.Mathlib.Nat.{le-of-suc-le-suc, not-suc-le-zero, add-assoc}
 use native.Mathlib.Decide.{decLe}
 use native.Mathlib.Numerals.{add-one}
 use native.Mathlib.Omega.{arith}
 use mathlib.Core.Path.{_≡_, refl, sym, ap, _∙_}
 use mathlib.Core.Bool.{Bool, true, false, _&&_}
-use mathlib.Core.List.{List, [], _∷_, _++_}
+use mathlib.Core.List.{List, [], _∷_}
 use lib.ListN.{length, getD, take, drop, drop-of-length-le, length-drop}
 use lib.Seq.{drop-cons, drop-drop}
 use lib.Dec.{eqb}
@@ -15,7 +15,7 @@ use Rattle.bench_file.specs.Layout.{isMark}
 use Rattle.bench_file.specs.Cursor.{numberRead, byteRead, reached}
 use Rattle.bench_file.specs.declared.Reached.{Reached}
 use Rattle.bench_file.specs.declared.ByteRead.{ByteRead}
-use Rattle.bench_file.specs.Reading.{Outcome, refused, read, Reader, after, rule, field, littleEndian, number, byte, ruledByte, several}
+use Rattle.bench_file.specs.Reading.{Outcome, refused, read, Reader, after, rule, field, littleEndian, number, byte, ruledByte}
 
 -- what follows a value that was read, and a refusal
 pub after-read : {A B : Type 0} {o : Outcome A} {a : A} {rest : List ℕ} (next : A → Reader B) → o ≡ read a rest → after o next ≡ next a rest

@@ -2,13 +2,13 @@
 use Prim.Native.Nat.{ℕ, _+_, _≤_, _<_}
 use native.Mathlib.Nat.{add-assoc}
 use native.Mathlib.Omega.{arith}
-use mathlib.Core.Path.{_≡_, refl, sym, ap, _∙_}
+use mathlib.Core.Path.{_≡_}
 use mathlib.Core.Bool.{true, false}
-use mathlib.Core.List.{List, [], _∷_}
+use mathlib.Core.List.{List}
 use lib.ListN.{length, take, drop}
 use Rattle.object.specs.declared.Kind.{Kind}
 use Rattle.object.specs.Paper.{requestOf, leastCode, mostCode, valueAllowed}
-use Rattle.bench_file.specs.Reading.{Outcome, refused, read, littleEndian, ranged}
+use Rattle.bench_file.specs.Reading.{refused, read, littleEndian, ranged}
 use Rattle.bench_file.specs.Layout.{requestReader}
 use Rattle.bench_file.proofs.Reading.{field-at, field-cut-at}
 

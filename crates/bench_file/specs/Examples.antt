@@ -1,6 +1,6 @@
 -- Document 01's refusal table: its examples 1 to 12, each with the number that it is given, and its 64-byte file.
 use Prim.Native.Nat.{ℕ}
-use mathlib.Core.List.{List, [], _∷_, _++_, map}
+use mathlib.Core.List.{List, [], _∷_, _++_}
 use lib.ListN.{replicate}
 use Rattle.bench_file.specs.Layout.{Judgement, accepted, refusedBy, judgeOf}
 

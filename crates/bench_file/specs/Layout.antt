@@ -1,14 +1,14 @@
 -- The bench file, version 1: its fields, and what a list of bytes is judged to be, front to back.
 use Prim.Native.Nat.{ℕ}
-use mathlib.Core.Bool.{Bool, true, false, _&&_}
-use mathlib.Core.List.{List, [], _∷_}
+use mathlib.Core.Bool.{Bool, _&&_}
+use mathlib.Core.List.{List}
 use lib.ListN.{getD}
 use lib.Dec.{leb, ltb, eqb}
 use Rattle.object.specs.declared.Kind.{Kind}
 use Rattle.object.specs.declared.Request.{Request}
 use Rattle.object.specs.Paper.{kindOf, requestOf, leastCode, mostCode, valueAllowed, leastCapacity, mostCapacity}
 use Rattle.bench_file.specs.declared.Head.{Head}
-use Rattle.bench_file.specs.Reading.{Outcome, refused, read, Reader, after, _>>=_, _>>_, done, rule, field, number, byte, ruledByte, ranged, several, end}
+use Rattle.bench_file.specs.Reading.{Outcome, refused, read, Reader, _>>=_, _>>_, done, rule, field, number, ruledByte, ranged, several, end}
 
 -- the fields of a bench file: object, n, h and capacity; a row of requests for each thread; the thread of each schedule entry
 pub record Fields : Type 0 where

@@ -33,6 +33,9 @@ pub record Judges (bytes : List ℕ) (r : Judged) : Type 0 where
   pub answer : r ≡ judgedAs (judgeOf bytes)
   -- accepted with given fields exactly if they are in range and the file is their bytes
   pub exactly : (f : Fields) → (judgeOf bytes ≡ accepted f) ↔ (InRange f × (bytesOf f ≡ bytes))
+  -- its counts are the requests and the entries of the fields; a refusal has its number, and all counts 0
+  pub counts : (f : Fields) → judgeOf bytes ≡ accepted f → (judgedRequests r ≡ sumOver length (f .rows)) × (judgedEntries r ≡ length (f .schedule))
+  pub refused : (refusal : ℕ) → judgeOf bytes ≡ refusedBy refusal → (judgedRefusal r ≡ refusal) × (judgedRequests r ≡ 0) × (judgedEntries r ≡ 0)
   -- a refusal's number is one of the table, 1 to 12, so that 0 means accepted
   pub numbers : judgedRefusal r ≤ 12
   pub zero : judgedRefusal r ≡ 0 → (f : Fields) × (judgeOf bytes ≡ accepted f)

@@ -6,7 +6,7 @@ use mathlib.Core.List.{List, []}
 use native.Mathlib.Omega.{arith}
 use lib.Dec.{eqb}
 use borrow.Author.Tests.{ne-eqb}
-use Rattle.bench_file.specs.Reading.{Outcome, refused, read, Reader, after, done}
+use Rattle.bench_file.specs.Reading.{Outcome, refused, read, after, done}
 use Rattle.bench_file.specs.Cursor.{tallied, forgotten, numbered, numberRead}
 
 pub forgotten-tallied : {A : Type 0} (tally : A → ℕ) (o : Outcome A) → forgotten (tallied tally o) ≡ forgotten o

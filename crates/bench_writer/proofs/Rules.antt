@@ -3,7 +3,7 @@ use Prim.Native.Nat.{ℕ}
 use mathlib.Core.Path.{_≡_, refl, _∙_}
 use mathlib.Core.Bool.{Bool, true}
 use mathlib.Core.List.{List, [], _∷_}
-use Rattle.bench_file.specs.Reading.{read, after, rule, rules}
+use Rattle.bench_file.specs.Reading.{read, rule, rules}
 use Rattle.bench_file.specs.Bytes.{Each, Tabled}
 use Rattle.bench_file.proofs.Reading.{rule-kept}
 use Rattle.bench_file.proofs.Codec.{came, rule-back}

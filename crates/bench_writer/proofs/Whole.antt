@@ -1,28 +1,27 @@
 -- The writer takes all fields in range: given them, it writes their bytes, and nothing else where it has room. Assumes nothing.
-use Prim.Native.Nat.{ℕ, _+_, _*_, _≤_}
-use native.Mathlib.Nat.{le-refl}
+use Prim.Native.Nat.{ℕ, _+_, _*_}
 use native.Mathlib.Omega.{arith}
 use mathlib.Core.Path.{_≡_, refl, sym, ap, _∙_}
-use mathlib.Core.Bool.{Bool, true, _&&_}
+use mathlib.Core.Bool.{Bool, true}
 use mathlib.Core.List.{List, [], _∷_, _++_, map, append-nil}
-use lib.ListN.{length, take, drop, length-append, length-map}
+use lib.ListN.{length, length-append, length-map}
 use lib.Seq.{take-append-seam, drop-append-seam}
-use lib.Dec.{leb, ltb}
+use lib.Dec.{leb}
 use borrow.Author.Tests.{le-leb, lt-ltb}
 use Rattle.object.specs.declared.Kind.{Kind}
 use Rattle.object.specs.declared.Request.{Request}
-use Rattle.object.specs.Paper.{kindNumber, kindOf}
+use Rattle.object.specs.Paper.{kindNumber}
 use Rattle.object.proofs.Inverse.{number-of-kind, kind-range}
-use Rattle.bench_file.specs.Reading.{Outcome, read, rules, several}
+use Rattle.bench_file.specs.Reading.{read, several}
 use Rattle.bench_file.specs.Layout.{Fields, accepted, requestReader}
 use Rattle.bench_file.specs.Bytes.{requestBytes, eachBytes, bytesOf, Each, RequestInRange, RowInRange, InRange}
 use Rattle.bench_file.specs.Cursor.{sumOver}
 use Rattle.bench_file.proofs.Each.{each-append, each-map, eachBytes-append, eachBytes-length}
+use Rattle.bench_file.proofs.Size.{request-length}
 use Rattle.bench_file.proofs.Codec.{within-range, several-codec}
 use Rattle.bench_file.proofs.RoundTrip.{capacity-range, request-codec}
-use Rattle.bench_writer.specs.Writer.{Given, givenFrom, total, every, dealt, numberRules, countRules, sizeRules, entryRules, requestsReader, givenReader, givenOf, fitted, writeOf}
+use Rattle.bench_writer.specs.Writer.{givenFrom, total, every, dealt, numberRules, countRules, sizeRules, entryRules, requestsReader, givenReader, givenOf, fitted, writeOf}
 use Rattle.bench_writer.proofs.Rules.{rules-pass}
-use Rattle.bench_writer.proofs.Writing.{request-length}
 
 -- the requests of all threads, one row after the other
 flat : List (List Request) → List Request

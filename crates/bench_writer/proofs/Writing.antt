@@ -1,6 +1,6 @@
--- What the writer of specs/Writer.antt writes: the bytes of fields in range, judged accepted with the same fields; how long they are, and that the
+-- What the writer of specs/Writer.antt writes: the bytes of fields in range, judged accepted with the same fields; and that the
 -- rows of requests go into them as they are given. Assumes nothing.
-use Prim.Native.Nat.{ℕ, suc, _+_, _*_, _≤_, _<_}
+use Prim.Native.Nat.{ℕ, suc, _*_, _≤_, _<_}
 use native.Mathlib.Nat.{le-antisymm}
 use native.Mathlib.Decide.{decLe}
 use native.Mathlib.Omega.{arith}
@@ -9,26 +9,23 @@ use mathlib.Core.Bool.{Bool, true, and-eq-true-iff}
 use mathlib.Core.List.{List, [], _∷_, _++_, append-nil}
 use lib.ListN.{length, take, drop, length-append, length-take, length-drop, drop-of-length-le}
 use lib.Seq.{length-take-le, take-at}
-use lib.Dec.{leb, ltb}
 use borrow.Author.Tests.{leb-true, ltb-true, le-leb, lt-leb}
 use Rattle.object.specs.declared.Kind.{Kind}
 use Rattle.object.specs.declared.Request.{Request}
-use Rattle.object.specs.Paper.{within, kindOf, requestValue, leastCapacity, mostCapacity}
+use Rattle.object.specs.Paper.{kindOf}
 use Rattle.object.proofs.Inverse.{kind-of-number}
-use Rattle.bench_file.specs.Reading.{Outcome, refused, read, Reader, after, done, rules, several}
+use Rattle.bench_file.specs.Reading.{Outcome, refused, read, after, rules, several}
 use Rattle.bench_file.specs.Layout.{Fields, Judgement, accepted, refusedBy, judged, judgeOf, requestReader}
-use Rattle.bench_file.specs.Bytes.{lowFirst, requestBytes, eachBytes, rowBytes, headBytes, bytesOf, Each, Byte, RequestInRange, RowInRange, CapacityInRange, InRange}
+use Rattle.bench_file.specs.Bytes.{requestBytes, eachBytes, rowBytes, bytesOf, Each, Byte, RequestInRange, RowInRange, CapacityInRange, InRange}
 use Rattle.bench_file.specs.Cursor.{sumOver}
 use Rattle.bench_writer.specs.Writer.{Given, total, every, dealt, interleaved, rawBytes, numberRules, countRules, sizeRules, entryRules, requestsReader, givenReader, givenOf, Writing, fitted, writtenAs, writeOf, WritesAs}
 use Rattle.bench_writer.specs.declared.Written.{Written}
-use Rattle.bench_file.proofs.Each.{each-take, each-drop, each-map, eachBytes-length, eachBytes-take, eachBytes-drop, low-length}
+use Rattle.bench_file.proofs.Each.{each-take, each-drop, each-map, eachBytes-length, eachBytes-take, eachBytes-drop}
 use Rattle.bench_file.proofs.Codec.{came, within-range, several-codec}
+use Rattle.bench_file.proofs.Size.{request-length}
 use Rattle.bench_file.proofs.Numbered.{Numbered, done-numbered, after-numbered, several-numbered, request-numbered}
 use Rattle.bench_writer.proofs.Rules.{rules-kept, rules-numbered}
 use Rattle.bench_file.proofs.RoundTrip.{capacity-range, request-codec, judged-came, reads-back}
-
-pub request-length : (r : Request) → length (requestBytes r) ≡ 5
-request-length r = ap suc (low-length 4 (requestValue r))
 
 -- the requests, dealt to the threads by their counts
 dealt-length : (counts : List ℕ) (l : List Request) → length (dealt counts l) ≡ length counts
@@ -166,16 +163,6 @@ takes g f rest p e =
       entries = t .entries;
       bytes = taken-bytes g f t;
     }
-
--- how long a file is
-rows-length : (rows : List (List Request)) → length (eachBytes rowBytes rows) ≡ length rows + 5 * sumOver length rows
-unfolding eachBytes sumOver
-rows-length [] = refl
-rows-length (row ∷ rows) = rw length-append (omega (arith, eachBytes-length requestBytes 5 request-length row, rows-length rows))
-
-pub length-bytes : (f : Fields) → length (bytesOf f) ≡ 11 + length (f .rows) + 5 * sumOver length (f .rows) + length (f .schedule)
-unfolding bytesOf
-length-bytes f = simp length-append (omega (arith, rows-length (f .rows), low-length 2 (length (f .schedule))))
 
 -- the writer's refusals have numbers, so that 0 is no refusal
 given-numbered : (g : Given) → Numbered (givenReader g)

@@ -9,7 +9,7 @@ use Rattle.object.specs.declared.Kind.{Kind}
 use Rattle.object.specs.declared.Request.{Request}
 use Rattle.object.specs.Paper.{within, kindNumber, kindOf, leastCapacity, mostCapacity}
 use Rattle.bench_writer.specs.declared.Written.{Written}
-use Rattle.bench_file.specs.Reading.{Outcome, refused, read, Reader, after, _>>=_, _>>_, done, rules, several}
+use Rattle.bench_file.specs.Reading.{read, Reader, after, _>>=_, _>>_, done, rules, several}
 use Rattle.bench_file.specs.Layout.{Fields, Judgement, accepted, refusedBy, judged, judgeOf, requestReader}
 use Rattle.bench_file.specs.Cursor.{sumOver}
 use Rattle.bench_file.specs.Bytes.{lowFirst, requestBytes, eachBytes, bytesOf}

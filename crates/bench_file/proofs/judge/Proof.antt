@@ -1,9 +1,9 @@
 -- `bench_file::judge` meets its contract: a head, and then from the rows on. Assumes nothing.
-use mathlib.Core.Path.{_≡_, sym, ap, _∙_}
+use mathlib.Core.Path.{sym, ap, _∙_}
 use native.Mathlib.Omega.{arith}
 use borrow.Author.Needs.{needs}
 use Rattle.bench_file.specs.Bytes.{Each, Byte}
-use Rattle.bench_file.specs.Cursor.{headRead, HeadInside}
+use Rattle.bench_file.specs.Cursor.{headRead}
 use Rattle.bench_file.proofs.Judging.{judged-head, judged-refused, judges}
 use Rattle.bench_file.proofs.Each.{each-at}
 use Rattle.bench_file.proofs.judge.Statement.{statement}

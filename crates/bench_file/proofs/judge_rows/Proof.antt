@@ -1,5 +1,5 @@
 -- `bench_file::judge_rows` meets its contract: rows, and then from the schedule on. Assumes nothing.
-use mathlib.Core.Path.{_≡_, _∙_}
+use mathlib.Core.Path.{_∙_}
 use borrow.Author.Needs.{needs}
 use Rattle.bench_file.specs.declared.Reached.the-variants as Reached
 use Rattle.bench_file.specs.Cursor.{Ahead}

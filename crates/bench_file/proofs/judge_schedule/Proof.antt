@@ -1,8 +1,6 @@
 -- `bench_file::judge_schedule` meets its contract: behind the schedule is the end, or 12. Assumes nothing.
-use mathlib.Core.Path.{_≡_, sym, ap, _∙_}
 use lib.ListN.{drop-of-length-le}
 use borrow.Author.Needs.{needs}
-use Rattle.bench_file.specs.Cursor.{scheduleAs}
 use Rattle.bench_file.proofs.Reading.{cons-at, reached-was}
 use Rattle.bench_file.proofs.judge_schedule.Statement.{statement}
 use Rattle.bench_file.proofs.judge_schedule.Tie as tie

@@ -1,6 +1,6 @@
 -- `bench_file::read_head` meets its contract: the fields before a return were read, and the one that it stops at was refused.
 -- Assumes nothing.
-use mathlib.Core.Path.{_≡_, sym, _∙_}
+use mathlib.Core.Path.{_≡_, _∙_}
 use mathlib.Core.List.{List}
 use Prim.Native.Nat.{ℕ}
 use lib.ListN.{drop}

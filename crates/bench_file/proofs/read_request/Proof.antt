@@ -1,6 +1,5 @@
 -- `bench_file::read_request` meets its contract: each return is one law of `requestReader` behind its code. Assumes nothing.
 use mathlib.Core.Path.{_≡_, sym, _∙_, ap}
-use mathlib.Core.List.{List}
 use Prim.Native.Nat.{ℕ, _+_, _<_}
 use native.Mathlib.Omega.{arith}
 use lib.ListN.{length, drop}

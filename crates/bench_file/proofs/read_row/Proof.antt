@@ -1,6 +1,6 @@
 -- `bench_file::read_row` meets its contract: a count, and then so many requests. Assumes nothing.
-use Prim.Native.Nat.{ℕ, _+_, _<_}
-use mathlib.Core.Path.{_≡_, sym, _∙_}
+use Prim.Native.Nat.{_+_, _<_}
+use mathlib.Core.Path.{_≡_, _∙_}
 use native.Mathlib.Omega.{arith}
 use lib.ListN.{length, drop}
 use borrow.Author.Needs.{needs}
@@ -28,8 +28,7 @@ enum-known-count : tie.Need-enum-known-count
 enum-known-count c = search needs
 
 add-read-requests : tie.Need-add-read-requests
-add-read-requests c =
-    omega (arith, count-inside c, given c .good)
+add-read-requests c = omega (arith, count-inside c, given c .good)
 
 cast-read-requests : tie.Need-cast-read-requests
 cast-read-requests c = search needs

@@ -17,12 +17,10 @@ abbrev μ-loop : tie.MeasureT-loop
 μ-loop row bound i₀ i = length row - i
 
 loop-holds : tie.Need-loop-holds Inv-loop μ-loop
-loop-holds c =
-    (search needs, refl)
+loop-holds c = (search needs, refl)
 
 shared-slice-read-if1 : tie.Need-shared-slice-read-if1 Inv-loop μ-loop
-shared-slice-read-if1 c =
-    search needs
+shared-slice-read-if1 c = search needs
 
 returns : tie.Need-returns Inv-loop μ-loop
 returns c =
@@ -30,12 +28,10 @@ returns c =
     sym (every-stop (at .before .args .row .now) (at .loop .i) _ (c .before .before .loop-test .taken) (le-ltb _ _ (c .if1 .taken))) ∙ at .loop .inv .1
 
 add-i : tie.Need-add-i Inv-loop μ-loop
-add-i c =
-    search needs
+add-i c = search needs
 
 loop-less : tie.Need-loop-less Inv-loop μ-loop
-loop-less c =
-    search needs
+loop-less c = search needs
 
 loop-again : tie.Need-loop-again Inv-loop μ-loop
 loop-again c =

@@ -1,24 +1,17 @@
 -- `bench_writer::judge_counts` meets its contract: the rules before a return are kept, and the one that it stops at is broken. Assumes nothing.
-use Prim.Native.Nat.{ℕ}
-use mathlib.Core.Path.{_≡_, sym, _∙_}
-use mathlib.Core.Bool.{Bool}
-use native.Mathlib.Omega.{arith}
-use lib.ListN.{length}
+use mathlib.Core.Path.{sym, _∙_}
 use lib.Dec.{leb·suc-suc}
 use borrow.Author.Needs.{needs}
 use borrow.Author.Tests.{le-leb, lt-leb}
-use Rattle.bench_writer.specs.Writer.{every}
 use Rattle.bench_writer.proofs.Rows.{every-same}
 use Rattle.bench_writer.proofs.judge_counts.Statement.{statement}
 use Rattle.bench_writer.proofs.judge_counts.Tie as tie
 
 returns : tie.Need-returns
-returns c =
-    λ bytes. simp (lt-leb _ _ (c .if1 .taken))
+returns c = λ bytes. simp (lt-leb _ _ (c .if1 .taken))
 
 returns-2 : tie.Need-returns-2
-returns-2 c =
-    λ bytes. simp (le-leb _ _ (c .before .if1 .left), lt-leb _ _ (c .if2 .taken))
+returns-2 c = λ bytes. simp (le-leb _ _ (c .before .if1 .left), lt-leb _ _ (c .if2 .taken))
 
 every-below-requires : tie.Need-every-below-requires
 every-below-requires c κs = search needs

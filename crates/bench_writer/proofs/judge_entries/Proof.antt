@@ -1,14 +1,12 @@
 -- `bench_writer::judge_entries` meets its contract: the rules before a return are kept, and the one that it stops at is broken. Assumes nothing.
-use mathlib.Core.Path.{_≡_, sym, _∙_}
+use mathlib.Core.Path.{sym, _∙_}
 use borrow.Author.Needs.{needs}
 use borrow.Author.Tests.{le-leb, lt-leb}
-use Rattle.bench_writer.specs.Writer.{every}
 use Rattle.bench_writer.proofs.judge_entries.Statement.{statement}
 use Rattle.bench_writer.proofs.judge_entries.Tie as tie
 
 returns : tie.Need-returns
-returns c =
-    λ bytes. simp (lt-leb _ _ (c .if1 .taken))
+returns c = λ bytes. simp (lt-leb _ _ (c .if1 .taken))
 
 every-below-requires : tie.Need-every-below-requires
 every-below-requires c κs = search needs

@@ -1,6 +1,5 @@
 -- `bench_writer::judge_requests` meets its contract: so many bytes as the counts ask, and then so many requests. Assumes nothing.
-use mathlib.Core.Path.{_≡_, sym, ap, _∙_}
-use native.Mathlib.Omega.{arith}
+use mathlib.Core.Path.{sym, ap, _∙_}
 use borrow.Author.Needs.{needs}
 use borrow.Author.Tests.{le-leb, lt-leb, ne-eqb}
 use mathlib.Core.List.{List}
@@ -27,16 +26,14 @@ mul-if1 c = search needs
 
 returns : tie.Need-returns
 unfolding requestsReader
-returns c =
-    simp (lt-leb _ _ (c .if1 .taken))
+returns c = simp (lt-leb _ _ (c .if1 .taken))
 
 mul-if2 : tie.Need-mul-if2
 mul-if2 c = search needs
 
 returns-2 : tie.Need-returns-2
 unfolding requestsReader
-returns-2 c =
-    simp (le-leb _ _ (c .before .if1 .left), lt-leb _ _ (c .if2 .taken))
+returns-2 c = simp (le-leb _ _ (c .before .if1 .left), lt-leb _ _ (c .if2 .taken))
 
 read-request-row-requires : tie.Need-read-request-row-requires
 read-request-row-requires c κs = search needs

@@ -1,12 +1,12 @@
 -- `bench_writer::put_file` meets its contract: four runs of bytes, one behind the other. Assumes nothing.
 use Prim.Native.Nat.{ℕ, _+_, _≤_}
-use mathlib.Core.Path.{_≡_, refl, sym, ap, _∙_}
+use mathlib.Core.Path.{refl, sym, _∙_}
 use mathlib.Core.List.{List, [], _∷_, _++_}
 use native.Mathlib.Omega.{arith}
 use lib.ListN.{length, length-append}
 use borrow.Author.Needs.{needs}
 use Rattle.bench_file.specs.Bytes.{lowFirst}
-use Rattle.bench_writer.specs.Writer.{Given, givenBy, interleaved, rawBytes, pasted}
+use Rattle.bench_writer.specs.Writer.{Given, givenBy, interleaved, rawBytes}
 use Rattle.bench_file.proofs.Each.{low-length}
 use Rattle.bench_writer.proofs.Laying.{raw-length}
 use Rattle.bench_writer.proofs.Pasted.{pasted-behind}
@@ -29,8 +29,7 @@ enough : (c : tie.After-put-head-arg) → 11 + length (interleaved (file c .coun
 enough c = omega (arith, raw-length (file c), given c .pre .1)
 
 put-head-requires : tie.Need-put-head-requires
-put-head-requires c κs =
-    omega (arith, enough c)
+put-head-requires c κs = omega (arith, enough c)
 
 put-rows-requires : tie.Need-put-rows-requires
 put-rows-requires c κs =

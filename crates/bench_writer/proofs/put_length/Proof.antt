@@ -21,8 +21,7 @@ same-length c = search needs
 
 returns : tie.Need-returns
 unfolding lowFirst
-returns c =
-    c .before .before .put .ensures
+returns c = c .before .before .put .ensures
 
 pub put-length-spec : {M : Type 1} → statement M
 put-length-spec =

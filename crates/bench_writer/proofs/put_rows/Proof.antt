@@ -1,6 +1,5 @@
 -- `bench_writer::put_rows` meets its contract: a loop that lays the rows, one a turn. Assumes nothing.
-use Prim.Native.Nat.{ℕ, _+_, _-_, _*_, _≤_, _<_}
-use mathlib.Core.Path.{_≡_}
+use Prim.Native.Nat.{ℕ, _+_, _-_, _*_, _≤_}
 use native.Mathlib.Omega.{arith}
 use lib.ListN.{length, getD}
 use borrow.Author.Needs.{needs}
@@ -29,36 +28,28 @@ row-inside c =
     omega (arith, room _ _ _ _ (c .before .loop .inv) (given c .pre .1) (c .loop-test .taken), given c .pre, c .before .loop .inv .size)
 
 loop-holds : tie.Need-loop-holds Inv-loop μ-loop
-loop-holds c =
-    begins _ _ _ _ (c .before .before .before .pre .0)
+loop-holds c = begins _ _ _ _ (c .before .before .before .pre .0)
 
 shared-slice-read-count : tie.Need-shared-slice-read-count Inv-loop μ-loop
-shared-slice-read-count c =
-    search needs
+shared-slice-read-count c = search needs
 
 cast-end : tie.Need-cast-end Inv-loop μ-loop
-cast-end c =
-    omega (arith, c .shared-slice-known3 .given (c .before .before .loop .i))
+cast-end c = omega (arith, c .shared-slice-known3 .given (c .before .before .loop .i))
 
 mul-end : tie.Need-mul-end Inv-loop μ-loop
-mul-end c =
-    omega (arith, c .shared-slice-known3 .given (c .before .before .loop .i))
+mul-end c = omega (arith, c .shared-slice-known3 .given (c .before .before .loop .i))
 
 add-end : tie.Need-add-end Inv-loop μ-loop
-add-end c =
-    omega (arith, end-inside (c .before), given (c .before) .good)
+add-end c = omega (arith, end-inside (c .before), given (c .before) .good)
 
 sub-put-row : tie.Need-sub-put-row Inv-loop μ-loop
-sub-put-row c =
-    omega arith
+sub-put-row c = omega arith
 
 part-put-row-start : tie.Need-part-put-row-start Inv-loop μ-loop
-part-put-row-start c =
-    omega arith
+part-put-row-start c = omega arith
 
 part-put-row-end : tie.Need-part-put-row-end Inv-loop μ-loop
-part-put-row-end c =
-    end-inside (c .before .before)
+part-put-row-end c = end-inside (c .before .before)
 
 put-row-requires : tie.Need-put-row-requires Inv-loop μ-loop
 put-row-requires c κs =
@@ -66,8 +57,7 @@ put-row-requires c κs =
     rw (part-length _ _ _ _ (at .before .loop .inv) (given at .pre .1) (at .loop-test .taken)) (omega (arith, row-inside at))
 
 sub-next : tie.Need-sub-next Inv-loop μ-loop
-sub-next c =
-    omega arith
+sub-next c = omega arith
 
 add-next : tie.Need-add-next Inv-loop μ-loop
 add-next c =
@@ -78,12 +68,10 @@ add-next-2 c =
     omega (arith, row-inside (c .before .before .before .before .before .before), c .before .before .before .before .before .before .before .loop .inv .size, given (c .before .before .before .before .before .before) .good)
 
 add-i : tie.Need-add-i Inv-loop μ-loop
-add-i c =
-    search needs
+add-i c = search needs
 
 loop-less : tie.Need-loop-less Inv-loop μ-loop
-loop-less c =
-    search needs
+loop-less c = search needs
 
 loop-again : tie.Need-loop-again Inv-loop μ-loop
 loop-again c =
@@ -91,12 +79,10 @@ loop-again c =
     turns _ _ _ _ (at .before .loop .inv) (given at .pre .1) (at .loop-test .taken) (c .before .before .put-row .ensures)
 
 same-length : tie.Need-same-length Inv-loop μ-loop
-same-length c =
-    c .before .loop .inv .size
+same-length c = c .before .loop .inv .size
 
 returns : tie.Need-returns Inv-loop μ-loop
-returns c =
-    ends _ _ _ _ (c .before .loop .inv) (c .loop-test .left)
+returns c = ends _ _ _ _ (c .before .loop .inv) (c .loop-test .left)
 
 pub put-rows-spec : {M : Type 1} → statement M
 put-rows-spec =

@@ -3,7 +3,6 @@ use Prim.Native.Nat.{_+_, _*_, _≤_, _-_}
 use mathlib.Core.Path.{_≡_}
 use native.Mathlib.Omega.{arith}
 use lib.ListN.{length, drop}
-use borrow.Author.Needs.{needs}
 use Rattle.bench_writer.specs.Writer.{total}
 use Rattle.bench_writer.proofs.Rows.{total-more, total-end}
 use Rattle.bench_writer.proofs.total_of.Statement.{statement}
