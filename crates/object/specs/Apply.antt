@@ -31,9 +31,11 @@ heldInRange kind capacity held = capacityAllowed kind capacity && leb held capac
 abbrev pub objectInRange : Kind → ℕ → Object → Bool
 objectInRange kind capacity ob = heldInRange kind capacity (ob .held)
 
+-- a request that the object knows
 abbrev pub knows : Kind → Request → Bool
 knows kind request = codeKnown kind (requestCode request)
 
+-- an answer, and the object after it
 abbrev pub answered : Answer → Object → Applied
 answered answer ob = record { refusal = 0; answer = answer; object = ob }
 

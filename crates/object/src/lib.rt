@@ -124,6 +124,7 @@ pub fn answer_value(answer: Answer) -> u32
     }
 }
 
+// The codes that a kind knows reach from the least to the most.
 pub fn least_code(kind: Kind) -> u8
     ensures { λ r. ⌜ r ≡ leastCode kind ⌝ }
 {
@@ -150,6 +151,7 @@ pub fn code_known(kind: Kind, code: u8) -> bool
     between(least_code(kind), code, most_code(kind))
 }
 
+// A take's value is 0.
 pub fn value_allowed(code: u8, value: u32) -> bool
     ensures { λ r. ⌜ r ≡ valueAllowed code value ⌝ }
 {
@@ -159,6 +161,7 @@ pub fn value_allowed(code: u8, value: u32) -> bool
     true
 }
 
+// The capacities that a kind allows reach from the least to the most.
 pub fn least_capacity(kind: Kind) -> u8
     ensures { λ r. ⌜ r ≡ leastCapacity kind ⌝ }
 {
