@@ -1,0 +1,145 @@
+-- What a printed line does to its thread, to the node that it points to and to Tail: Algorithm 1 of source 004, line by line.
+use Prim.Native.Nat.{ℕ, _+_}
+use mathlib.Core.Bool.{Bool, true, false, cond, not, _&&_, _||_}
+use lib.Dec.{leb, ltb, eqb}
+use Rattle.object.specs.declared.Request.{Request}
+use Rattle.object.specs.declared.Answer.{Answer}
+use Rattle.machine.specs.declared.NodeId.{NodeId}
+use Rattle.machine.specs.declared.Announced.{Announced}
+use Rattle.machine.specs.declared.Announced.the-variants.{NoRequest, Asked}
+use Rattle.machine.specs.declared.RetVal.{RetVal}
+use Rattle.machine.specs.declared.RetVal.the-variants.{NoAnswer, Answered}
+use Rattle.machine.specs.declared.Node.{Node}
+use Rattle.machine.specs.declared.Thread.{Thread}
+use Rattle.machine.specs.declared.Effect.{Effect}
+use Rattle.machine.specs.Lines.{Line, lineOf, Blank, L1, L2, L3, L4, L5, L6, L7, L8, L9, L10, L11, L12, L13, L14, L15, L16, L17, L18, L19, L20, L21}
+
+-- null is no node's number
+abbrev pub null : NodeId
+null = record { 0 = 255 }
+
+abbrev pub isNull : NodeId → Bool
+isNull m = eqb (m .0) 255
+
+abbrev pub isEmptyReq : Announced → Bool
+isEmptyReq NoRequest = true
+isEmptyReq (Asked request) = false
+
+abbrev pub isEmptyRet : RetVal → Bool
+isEmptyRet NoAnswer = true
+isEmptyRet (Answered answer) = false
+
+-- a node with one field written
+module _ (x : Node) where
+  abbrev pub withReq : Request → Node
+  withReq request = record { req = Asked request; ret = x .ret; wait = x .wait; completed = x .completed; next = x .next }
+
+  abbrev pub withRet : Answer → Node
+  withRet answer = record { req = x .req; ret = Answered answer; wait = x .wait; completed = x .completed; next = x .next }
+
+  abbrev pub withWait : Bool → Node
+  withWait wait = record { req = x .req; ret = x .ret; wait = wait; completed = x .completed; next = x .next }
+
+  abbrev pub withCompleted : Bool → Node
+  withCompleted completed = record { req = x .req; ret = x .ret; wait = x .wait; completed = completed; next = x .next }
+
+  abbrev pub withNext : NodeId → Node
+  withNext next = record { req = x .req; ret = x .ret; wait = x .wait; completed = x .completed; next = next }
+
+-- a thread that goes on to a line, with its variables given
+module _ (th : Thread) (line : ℕ) where
+  abbrev pub having : NodeId → NodeId → NodeId → NodeId → ℕ → Thread
+  having own cur tmp tmpnext served = record {
+    count = th .count;
+    begun = th .begun;
+    line = line;
+    own = own;
+    cur = cur;
+    tmp = tmp;
+    tmpnext = tmpnext;
+    served = served;
+  }
+
+  abbrev pub goes : Thread
+  goes = having (th .own) (th .cur) (th .tmp) (th .tmpnext) (th .served)
+
+  -- one of its variables set
+  abbrev pub withOwn : NodeId → Thread
+  withOwn own = having own (th .cur) (th .tmp) (th .tmpnext) (th .served)
+
+  abbrev pub withCur : NodeId → Thread
+  withCur cur = having (th .own) cur (th .tmp) (th .tmpnext) (th .served)
+
+  abbrev pub withTmp : NodeId → Thread
+  withTmp tmp = having (th .own) (th .cur) tmp (th .tmpnext) (th .served)
+
+  abbrev pub withTmpnext : NodeId → Thread
+  withTmpnext tmpnext = having (th .own) (th .cur) (th .tmp) tmpnext (th .served)
+
+  abbrev pub withServed : ℕ → Thread
+  withServed served = having (th .own) (th .cur) (th .tmp) (th .tmpnext) served
+
+-- line 1 adds 1 to the requests begun, sets the served counter to 0 and curNode, tmpNode and tmpNodeNext to null
+abbrev pub begins : Thread → Thread
+begins th = record {
+  count = th .count;
+  begun = th .begun + 1;
+  line = 2;
+  own = th .own;
+  cur = null;
+  tmp = null;
+  tmpnext = null;
+  served = 0;
+}
+
+-- a line that would take the requests begun past the count or the served counter past h, put null into tmpNode, or use an empty req or ret
+abbrev pub takesOut : Thread → Node → ℕ → ℕ → Bool
+takesOut th x h line =
+    eqb line 1 && leb (th .count) (th .begun)
+    || eqb line 14 && leb h (th .served)
+    || eqb line 19 && isNull (th .tmpnext)
+    || eqb line 16 && isEmptyReq (x .req)
+    || (eqb line 11 || eqb line 21) && isEmptyRet (x .ret)
+
+-- the thread, the node that it points to and Tail; h; the request of the thread's call, and the object's answer to the node's req
+module _ (th : Thread) (x : Node) (tail : NodeId) (h : ℕ) (request : Request) (answer : Answer) where
+  -- neither the node nor Tail changes
+  abbrev pub keeps : Thread → Effect
+  keeps after = record { refusal = 0; thread = after; node = x; tail = tail }
+
+  -- the node is written, and the thread goes on to a line
+  abbrev pub writes : Node → ℕ → Effect
+  writes after line = record { refusal = 0; thread = goes th line; node = after; tail = tail }
+
+  -- nextNode is the thread's own node until line 8
+  abbrev pub ran : Line → Effect
+  ran Blank = keeps th
+  ran L1 = keeps (begins th)  -- nextNode = node_i
+  ran L2 = writes (withNext x null) 3  -- nextNode→next = null
+  ran L3 = writes (withWait x true) 4  -- nextNode→wait = TRUE
+  ran L4 = writes (withCompleted x false) 5  -- nextNode→completed = FALSE
+  ran L5 = record { refusal = 0; thread = withCur th 6 tail; node = x; tail = th .own }  -- curNode = Swap(Tail, nextNode)
+  ran L6 = writes (withReq x request) 7  -- curNode→req = req
+  ran L7 = writes (withNext x (th .own)) 8  -- curNode→next = nextNode
+  ran L8 = keeps (withOwn th 9 (th .cur))  -- node_i = curNode
+  ran L9 = keeps (goes th (cond (x .wait) 9 10))  -- while (curNode→wait == TRUE) nop
+  ran L10 = keeps (goes th (cond (x .completed) 11 12))  -- if (curNode→completed == TRUE)
+  ran L11 = keeps (goes th 0)  -- return curNode→ret
+  ran L12 = keeps (withTmp th 13 (th .cur))  -- tmpNode = curNode
+  ran L13 = keeps (goes th (cond (not (isNull (x .next)) && ltb (th .served) h) 14 20))  -- while (tmpNode→next ≠ null AND counter < h)
+  ran L14 = keeps (withServed th 15 (th .served + 1))  -- counter = counter + 1
+  ran L15 = keeps (withTmpnext th 16 (x .next))  -- tmpNodeNext = tmpNode→next
+  ran L16 = writes (withRet x answer) 17  -- apply tmpNode→req, store the return value to tmpNode→ret
+  ran L17 = writes (withCompleted x true) 18  -- tmpNode→completed = TRUE
+  ran L18 = writes (withWait x false) 19  -- tmpNode→wait = FALSE
+  ran L19 = keeps (withTmp th 13 (th .tmpnext))  -- tmpNode = tmpNodeNext
+  ran L20 = writes (withWait x false) 21  -- tmpNode→wait = FALSE
+  ran L21 = keeps (goes th 0)  -- return curNode→ret
+
+  -- such a line is 14, with all as it was
+  abbrev pub refusedEffect : Effect
+  refusedEffect = record { refusal = 14; thread = th; node = x; tail = tail }
+
+  -- what the line of a number does
+  abbrev pub effectOf : ℕ → Effect
+  effectOf line = cond (takesOut th x h line) refusedEffect (ran (lineOf line))

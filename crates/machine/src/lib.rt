@@ -1,0 +1,462 @@
+// Threads, nodes and Tail of CC-Synch, the table of its printed lines, and what one line does: Algorithm 1 of source 004.
+ghost use mathlib.Core.Path.{_≡_};
+ghost use mathlib.Core.Bool.{false, cond, not, _&&_, _||_};
+ghost use lib.Dec.{leb, ltb, eqb};
+ghost use Rattle.machine.specs.Lines.{lineOf, lineRun, silent, rowOf, pointed};
+ghost use Rattle.machine.specs.Effect.{null, isNull, isEmptyReq, isEmptyRet, withReq, withRet, takesOut, ran, effectOf};
+use object::Answer;
+use object::Request;
+
+// A thread's number, 0 to n − 1.
+pub struct ThreadId(pub u8);
+
+// A node's number, 0 to n, or 255 for null.
+pub struct NodeId(pub u8);
+
+// The field req of a node: empty at first.
+pub enum Announced {
+    NoRequest,
+    Asked(Request),
+}
+
+// The field ret of a node: empty at first.
+pub enum RetVal {
+    NoAnswer,
+    Answered(Answer),
+}
+
+pub struct Node {
+    pub req: Announced,
+    pub ret: RetVal,
+    pub wait: bool,
+    pub completed: bool,
+    pub next: NodeId,
+}
+
+// A thread: how many requests it has and has begun, the line that it runs next (0 is idle), and its variables.
+pub struct Thread {
+    pub count: u8,
+    pub begun: u8,
+    pub line: u8,
+    pub own: NodeId, // node_i
+    pub cur: NodeId, // curNode
+    pub tmp: NodeId, // tmpNode
+    pub tmpnext: NodeId, // tmpNodeNext
+    pub served: u8, // counter
+}
+
+// Which of its variables a line goes through to a node.
+pub enum Pointer {
+    Own,
+    Cur,
+    Tmp,
+}
+
+pub enum Field {
+    Req,
+    Ret,
+    Wait,
+    Completed,
+    Next,
+}
+
+// A shared access of a line: of a field of the node that it points to, or a Swap on Tail.
+pub enum SharedAccess {
+    NoAccess,
+    Read(Field),
+    Write(Field),
+    Swap,
+}
+
+// A line's row of the table: the node that it points to, and its accesses in order.
+pub struct Row {
+    pub node: Pointer,
+    pub first: SharedAccess,
+    pub second: SharedAccess,
+}
+
+// What a line does: refusal 0 with the thread, the node that it points to and Tail after it, or 14 with all as it was.
+pub struct Effect {
+    pub refusal: u8,
+    pub thread: Thread,
+    pub node: Node,
+    pub tail: NodeId,
+}
+
+// The printed lines, 1 to 21.
+const LINES: [Row; 21] = [
+    Row {
+        node: Pointer::Own,
+        first: SharedAccess::NoAccess,
+        second: SharedAccess::NoAccess,
+    },
+    Row {
+        node: Pointer::Own,
+        first: SharedAccess::Write(Field::Next),
+        second: SharedAccess::NoAccess,
+    },
+    Row {
+        node: Pointer::Own,
+        first: SharedAccess::Write(Field::Wait),
+        second: SharedAccess::NoAccess,
+    },
+    Row {
+        node: Pointer::Own,
+        first: SharedAccess::Write(Field::Completed),
+        second: SharedAccess::NoAccess,
+    },
+    Row {
+        node: Pointer::Own,
+        first: SharedAccess::Swap,
+        second: SharedAccess::NoAccess,
+    },
+    Row {
+        node: Pointer::Cur,
+        first: SharedAccess::Write(Field::Req),
+        second: SharedAccess::NoAccess,
+    },
+    Row {
+        node: Pointer::Cur,
+        first: SharedAccess::Write(Field::Next),
+        second: SharedAccess::NoAccess,
+    },
+    Row {
+        node: Pointer::Own,
+        first: SharedAccess::NoAccess,
+        second: SharedAccess::NoAccess,
+    },
+    Row {
+        node: Pointer::Cur,
+        first: SharedAccess::Read(Field::Wait),
+        second: SharedAccess::NoAccess,
+    },
+    Row {
+        node: Pointer::Cur,
+        first: SharedAccess::Read(Field::Completed),
+        second: SharedAccess::NoAccess,
+    },
+    Row {
+        node: Pointer::Cur,
+        first: SharedAccess::Read(Field::Ret),
+        second: SharedAccess::NoAccess,
+    },
+    Row {
+        node: Pointer::Own,
+        first: SharedAccess::NoAccess,
+        second: SharedAccess::NoAccess,
+    },
+    Row {
+        node: Pointer::Tmp,
+        first: SharedAccess::Read(Field::Next),
+        second: SharedAccess::NoAccess,
+    },
+    Row {
+        node: Pointer::Own,
+        first: SharedAccess::NoAccess,
+        second: SharedAccess::NoAccess,
+    },
+    Row {
+        node: Pointer::Tmp,
+        first: SharedAccess::Read(Field::Next),
+        second: SharedAccess::NoAccess,
+    },
+    Row {
+        node: Pointer::Tmp,
+        first: SharedAccess::Read(Field::Req),
+        second: SharedAccess::Write(Field::Ret),
+    },
+    Row {
+        node: Pointer::Tmp,
+        first: SharedAccess::Write(Field::Completed),
+        second: SharedAccess::NoAccess,
+    },
+    Row {
+        node: Pointer::Tmp,
+        first: SharedAccess::Write(Field::Wait),
+        second: SharedAccess::NoAccess,
+    },
+    Row {
+        node: Pointer::Own,
+        first: SharedAccess::NoAccess,
+        second: SharedAccess::NoAccess,
+    },
+    Row {
+        node: Pointer::Tmp,
+        first: SharedAccess::Write(Field::Wait),
+        second: SharedAccess::NoAccess,
+    },
+    Row {
+        node: Pointer::Cur,
+        first: SharedAccess::Read(Field::Ret),
+        second: SharedAccess::NoAccess,
+    },
+];
+
+pub fn null() -> NodeId
+    ensures { λ r. ⌜ r ≡ null ⌝ }
+{
+    NodeId(255)
+}
+
+pub fn is_null(node: NodeId) -> bool
+    ensures { λ r. ⌜ r ≡ isNull node ⌝ }
+{
+    node.0 == 255
+}
+
+fn is_empty_req(req: Announced) -> bool
+    ensures { λ r. ⌜ r ≡ isEmptyReq req ⌝ }
+{
+    match req {
+        Announced::NoRequest => true,
+        Announced::Asked(_) => false,
+    }
+}
+
+fn is_empty_ret(ret: RetVal) -> bool
+    ensures { λ r. ⌜ r ≡ isEmptyRet ret ⌝ }
+{
+    match ret {
+        RetVal::NoAnswer => true,
+        RetVal::Answered(_) => false,
+    }
+}
+
+// The line that the thread's entry runs, 0 for a blank.
+pub fn line_run(thread: Thread) -> u8
+    ensures { λ r. ⌜ r ≡ lineRun thread ⌝ }
+{
+    if thread.line == 0 {
+        if thread.begun < thread.count {
+            return 1;
+        }
+        return 0;
+    }
+    thread.line
+}
+
+// No access.
+fn silent() -> Row
+    ensures { λ r. ⌜ r ≡ silent ⌝ }
+{
+    Row {
+        node: Pointer::Own,
+        first: SharedAccess::NoAccess,
+        second: SharedAccess::NoAccess,
+    }
+}
+
+// The row of a line; a blank has no access.
+pub fn row_of(line: u8) -> Row
+    ensures { λ r. ⌜ r ≡ rowOf (lineOf line) ⌝ }
+{
+    if line == 0 {
+        return silent();
+    }
+    if line > 21 {
+        return silent();
+    }
+    let place = (line - 1) as usize;
+    LINES[place]
+}
+
+// The node that a line points to.
+pub fn pointed(pointer: Pointer, thread: Thread) -> NodeId
+    ensures { λ r. ⌜ r ≡ pointed pointer thread ⌝ }
+{
+    match pointer {
+        Pointer::Own => thread.own,
+        Pointer::Cur => thread.cur,
+        Pointer::Tmp => thread.tmp,
+    }
+}
+
+// A line that would take a number out of its range or use an empty req or ret.
+fn takes_out(line: u8, thread: Thread, node: Node, h: u8) -> bool
+    ensures { λ r. ⌜ r ≡ takesOut thread node h line ⌝ }
+{
+    let req = node.req;
+    let ret = node.ret;
+    let tmpnext = thread.tmpnext;
+    let no_req = is_empty_req(req);
+    let no_ret = is_empty_ret(ret);
+    let no_next = is_null(tmpnext);
+    (line == 1) & (thread.count <= thread.begun)
+        | (line == 14) & (h <= thread.served)
+        | (line == 19) & no_next
+        | (line == 16) & no_req
+        | ((line == 11) | (line == 21)) & no_ret
+}
+
+fn either(test: bool, yes: u8, no: u8) -> u8
+    ensures { λ r. ⌜ r ≡ cond test yes no ⌝ }
+{
+    if test { yes } else { no }
+}
+
+fn with_req(node: Node, request: Request) -> Node
+    ensures { λ r. ⌜ r ≡ withReq node request ⌝ }
+{
+    let ret = node.ret;
+    let next = node.next;
+    Node {
+        req: Announced::Asked(request),
+        ret,
+        wait: node.wait,
+        completed: node.completed,
+        next,
+    }
+}
+
+fn with_ret(node: Node, answer: Answer) -> Node
+    ensures { λ r. ⌜ r ≡ withRet node answer ⌝ }
+{
+    let req = node.req;
+    let next = node.next;
+    Node {
+        req,
+        ret: RetVal::Answered(answer),
+        wait: node.wait,
+        completed: node.completed,
+        next,
+    }
+}
+
+// Algorithm 1, one printed line. The request is that of the thread's call, the answer the object's to the node's req.
+fn ran(
+    line: u8,
+    thread: Thread,
+    node: Node,
+    tail: NodeId,
+    h: u8,
+    request: Request,
+    answer: Answer,
+) -> Effect
+    requires { ⌜ takesOut thread node h line ≡ false ⌝ }
+    ensures { λ r. ⌜ r ≡ ran thread node tail h request answer (lineOf line) ⌝ }
+{
+    let null = NodeId(255);
+    let own = thread.own;
+    let cur = thread.cur;
+    let tmpnext = thread.tmpnext;
+    let next = node.next;
+    let mut th = thread;
+    let mut x = node;
+    let mut to = tail;
+    match line {
+        1 => {
+            th.begun = thread.begun + 1;
+            th.cur = null;
+            th.tmp = null;
+            th.tmpnext = null;
+            th.served = 0;
+            th.line = 2;
+        }
+        2 => {
+            x.next = null;
+            th.line = 3;
+        }
+        3 => {
+            x.wait = true;
+            th.line = 4;
+        }
+        4 => {
+            x.completed = false;
+            th.line = 5;
+        }
+        5 => {
+            th.cur = tail;
+            to = own;
+            th.line = 6;
+        }
+        6 => {
+            x = with_req(node, request);
+            th.line = 7;
+        }
+        7 => {
+            x.next = own;
+            th.line = 8;
+        }
+        8 => {
+            th.own = cur;
+            th.line = 9;
+        }
+        9 => {
+            th.line = either(node.wait, 9, 10);
+        }
+        10 => {
+            th.line = either(node.completed, 11, 12);
+        }
+        11 => {
+            th.line = 0;
+        }
+        12 => {
+            th.tmp = cur;
+            th.line = 13;
+        }
+        13 => {
+            th.line = either((next.0 != 255) & (thread.served < h), 14, 20);
+        }
+        14 => {
+            th.served = thread.served + 1;
+            th.line = 15;
+        }
+        15 => {
+            th.tmpnext = next;
+            th.line = 16;
+        }
+        16 => {
+            x = with_ret(node, answer);
+            th.line = 17;
+        }
+        17 => {
+            x.completed = true;
+            th.line = 18;
+        }
+        18 => {
+            x.wait = false;
+            th.line = 19;
+        }
+        19 => {
+            th.tmp = tmpnext;
+            th.line = 13;
+        }
+        20 => {
+            x.wait = false;
+            th.line = 21;
+        }
+        21 => {
+            th.line = 0;
+        }
+        _ => {}
+    }
+    Effect {
+        refusal: 0,
+        thread: th,
+        node: x,
+        tail: to,
+    }
+}
+
+// What a line does to its thread, to the node that it points to and to Tail; 14 if it would take a number out or use an empty req or ret.
+pub fn run_line(
+    line: u8,
+    thread: Thread,
+    node: Node,
+    tail: NodeId,
+    h: u8,
+    request: Request,
+    answer: Answer,
+) -> Effect
+    ensures { λ r. ⌜ r ≡ effectOf thread node tail h request answer line ⌝ }
+{
+    if takes_out(line, thread, node, h) {
+        return Effect {
+            refusal: 14,
+            thread,
+            node,
+            tail,
+        };
+    }
+    ran(line, thread, node, tail, h, request, answer)
+}
