@@ -1,11 +1,18 @@
--- What it means that a line takes no number out. Assumes nothing.
+-- What it means that a line takes no number out, and what `run_line` does then. Assumes nothing.
 use Prim.Native.Nat.{ℕ, _<_}
+use native.Mathlib.Omega.{arith}
 use mathlib.Core.Path.{_≡_, refl}
-use mathlib.Core.Bool.{Bool, true, false, _||_}
+use mathlib.Core.Bool.{Bool, true, false, cond, _||_}
 use borrow.Author.Tests.{leb-false}
+use Rattle.object.specs.declared.Request.{Request}
+use Rattle.object.specs.declared.Answer.{Answer}
+use Rattle.machine.specs.declared.NodeId.{NodeId}
 use Rattle.machine.specs.declared.Node.{Node}
 use Rattle.machine.specs.declared.Thread.{Thread}
-use Rattle.machine.specs.Effect.{takesOut}
+use Rattle.machine.specs.declared.Effect.{Effect}
+use Rattle.machine.specs.Lines.{lineOf}
+use Rattle.machine.specs.Effect.{takesOut, ran, refusedEffect, effectOf}
+use Rattle.machine.proofs.Written.{told}
 
 left-false : (a b : Bool) → (a || b) ≡ false → a ≡ false
 left-false true b e = e
@@ -20,3 +27,25 @@ module _ (th : Thread) (x : Node) (h : ℕ) {line : ℕ} where
   -- and the served counter grows only below h
   pub served-below : takesOut th x h line ≡ false → line ≡ 14 → th .served < h
   served-below e k = leb-false h (th .served) (left-false _ _ (left-false _ _ (left-false _ _ (rw k at e))))
+
+module _ (th : Thread) (x : Node) (tail : NodeId) (h : ℕ) (request : Request) (answer : Answer) (line : ℕ) where
+  abbrev does : Bool → Effect
+  does out = cond out (refusedEffect th x tail h request answer) (ran th x tail h request answer (lineOf line))
+
+  by-test : (out : Bool) → does out .refusal ≡ 0
+      → (out ≡ false) × (does out ≡ ran th x tail h request answer (lineOf line))
+  by-test true e = absurd (omega (arith, e))
+  by-test false e = (refl, refl)
+
+  -- a line that is not refused takes nothing out, and does what Algorithm 1 does
+  pub goes-through : effectOf th x tail h request answer line .refusal ≡ 0
+      → (takesOut th x h line ≡ false) × (effectOf th x tail h request answer line ≡ ran th x tail h request answer (lineOf line))
+  goes-through = by-test (takesOut th x h line)
+
+  refused-by : (out : Bool) → (does out .refusal ≡ 0 → ⊥) → out ≡ true
+  refused-by true e = refl
+  refused-by false e = absurd (e (told th x tail h request answer (lineOf line) .refusal))
+
+  -- one that is refused would take a number out or use an empty req or ret
+  pub refused-out : (effectOf th x tail h request answer line .refusal ≡ 0 → ⊥) → takesOut th x h line ≡ true
+  refused-out = refused-by (takesOut th x h line)

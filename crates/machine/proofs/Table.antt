@@ -5,8 +5,7 @@ use native.Mathlib.Numerals.{unary-clauses}
 use mathlib.Core.Path.{_≡_, refl, sym}
 use mathlib.Core.List.{List, [], _∷_, map}
 use lib.ListN.{getD, length, List·getD-map}
-use Rattle.machine.specs.declared.Row.{Row}
-use Rattle.machine.specs.Lines.{Line, Blank, printed, lineOf, silent, rowOf}
+use Rattle.machine.specs.Lines.{Blank, printed, lineOf, silent, rowOf}
 
 -- the table is the list of the rows of the printed lines, and place k holds the row of line k + 1
 pub row-at : (line : ℕ) → 0 < line → getD (map rowOf printed) (line - 1) silent ≡ rowOf (lineOf line)

@@ -1,128 +1,95 @@
+-- `machine::ran` meets its contract: each arm does what its printed line does. Assumes nothing.
 use native.Mathlib.Omega.{arith}
+use borrow.Author.Needs.{needs}
 use Rattle.machine.proofs.Refusal.{begun-below, served-below}
 use Rattle.machine.proofs.Table.{no-line}
-use borrow.Author.Needs.{needs}
 use Rattle.machine.proofs.ran.Statement.{statement}
 use Rattle.machine.proofs.ran.Tie as tie
-use Rattle.machine.proofs.ran.Reads as reads
-use Rattle.machine.proofs.ran.Lts as lts
-use Rattle.machine.proofs.either.Reads as either-reads
-use Rattle.machine.proofs.with_req.Reads as with-req-reads
-use Rattle.machine.proofs.with_ret.Reads as with-ret-reads
 
--- src/lib.rt:338:24
 add-th : tie.Need-add-th
 add-th c = let a = c .before .before .before .before .before .before .args in omega (arith, begun-below (a .thread) (a .node) (a .h) (c .before .before .before .before .before .before .pre) (c .before .match .keys1))
 
--- src/lib.rt:363:13
 with-req-requires : tie.Need-with-req-requires
 with-req-requires c κs = search needs
 
--- src/lib.rt:375:13
 either-requires : tie.Need-either-requires
 either-requires c κs = search needs
 
--- src/lib.rt:378:13
 either-requires-2 : tie.Need-either-requires-2
 either-requires-2 c κs = search needs
 
--- src/lib.rt:388:13
 either-requires-3 : tie.Need-either-requires-3
 either-requires-3 c κs = search needs
 
--- src/lib.rt:391:25
 add-th-2 : tie.Need-add-th-2
 add-th-2 c = let a = c .before .before .before .before .before .before .args in omega (arith, served-below (a .thread) (a .node) (a .h) (c .before .before .before .before .before .before .pre) (c .before .match .keys14))
 
--- src/lib.rt:399:13
 with-ret-requires : tie.Need-with-ret-requires
 with-ret-requires c κs = search needs
 
--- src/lib.rt:316:1
 returns : tie.Need-returns
 returns c = simp (c .before .match .keys1)
 
--- src/lib.rt:316:1
 returns-2 : tie.Need-returns-2
 returns-2 c = simp (c .match .keys2)
 
--- src/lib.rt:316:1
 returns-3 : tie.Need-returns-3
 returns-3 c = simp (c .match .keys3)
 
--- src/lib.rt:316:1
 returns-4 : tie.Need-returns-4
 returns-4 c = simp (c .match .keys4)
 
--- src/lib.rt:316:1
 returns-5 : tie.Need-returns-5
 returns-5 c = simp (c .match .keys5)
 
--- src/lib.rt:316:1
 returns-6 : tie.Need-returns-6
 returns-6 c = simp (c .with-req .ensures, c .before .match .keys6)
 
--- src/lib.rt:316:1
 returns-7 : tie.Need-returns-7
 returns-7 c = simp (c .match .keys7)
 
--- src/lib.rt:316:1
 returns-8 : tie.Need-returns-8
 returns-8 c = simp (c .match .keys8)
 
--- src/lib.rt:316:1
 returns-9 : tie.Need-returns-9
 returns-9 c = simp (c .either .ensures, c .before .match .keys9)
 
--- src/lib.rt:316:1
 returns-10 : tie.Need-returns-10
 returns-10 c = simp (c .either2 .ensures, c .before .match .keys10)
 
--- src/lib.rt:316:1
 returns-11 : tie.Need-returns-11
 returns-11 c = simp (c .match .keys11)
 
--- src/lib.rt:316:1
 returns-12 : tie.Need-returns-12
 returns-12 c = simp (c .match .keys12)
 
--- src/lib.rt:316:1
 returns-13 : tie.Need-returns-13
 returns-13 c = simp (c .either3 .ensures, c .before .before .before .match .keys13)
 
--- src/lib.rt:316:1
 returns-14 : tie.Need-returns-14
 returns-14 c = simp (c .before .match .keys14)
 
--- src/lib.rt:316:1
 returns-15 : tie.Need-returns-15
 returns-15 c = simp (c .match .keys15)
 
--- src/lib.rt:316:1
 returns-16 : tie.Need-returns-16
 returns-16 c = simp (c .with-ret .ensures, c .before .match .keys16)
 
--- src/lib.rt:316:1
 returns-17 : tie.Need-returns-17
 returns-17 c = simp (c .match .keys17)
 
--- src/lib.rt:316:1
 returns-18 : tie.Need-returns-18
 returns-18 c = simp (c .match .keys18)
 
--- src/lib.rt:316:1
 returns-19 : tie.Need-returns-19
 returns-19 c = simp (c .match .keys19)
 
--- src/lib.rt:316:1
 returns-20 : tie.Need-returns-20
 returns-20 c = simp (c .match .keys20)
 
--- src/lib.rt:316:1
 returns-21 : tie.Need-returns-21
 returns-21 c = simp (c .match .keys21)
 
--- src/lib.rt:316:1
 returns-22 : tie.Need-returns-22
 returns-22 c = simp (← no-line _ (c .match .rest))
 

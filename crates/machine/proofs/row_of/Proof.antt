@@ -1,46 +1,35 @@
+-- `machine::row_of` meets its contract: the const table is the list of the rows of the printed lines, by computation. Assumes nothing.
 use mathlib.Core.Path.{_∙_, ap}
+use borrow.Author.Needs.{needs}
 use Rattle.machine.specs.Lines.{rowOf}
 use Rattle.machine.proofs.Table.{row-at, no-line-above}
-use borrow.Author.Needs.{needs}
 use Rattle.machine.proofs.row_of.Statement.{statement}
 use Rattle.machine.proofs.row_of.Tie as tie
-use Rattle.machine.proofs.row_of.Reads as reads
-use Rattle.machine.proofs.row_of.Lts as lts
-use Rattle.machine.proofs.silent.Reads as silent-reads
 
--- src/lib.rt:254:9
 silent-requires : tie.Need-silent-requires
 silent-requires c κs = search needs
 
--- src/lib.rt:254:9
 returns : tie.Need-returns
 returns c = search needs
 
--- src/lib.rt:257:9
 silent-requires-2 : tie.Need-silent-requires-2
 silent-requires-2 c κs = search needs
 
--- src/lib.rt:257:9
 returns-2 : tie.Need-returns-2
 returns-2 c = c .silent2 .ensures ∙ ap rowOf (no-line-above _ (c .before .if2 .taken))
 
--- src/lib.rt:259:18
 sub-place : tie.Need-sub-place
 sub-place c = search needs
 
--- src/lib.rt:259:17
 cast-place : tie.Need-cast-place
 cast-place c = search needs
 
--- src/lib.rt:260:5
 mul-result : tie.Need-mul-result
 mul-result c = search needs
 
--- src/lib.rt:260:5
 array-copy-out-result : tie.Need-array-copy-out-result
 array-copy-out-result c = search needs
 
--- src/lib.rt:250:1
 returns-3 : tie.Need-returns-3
 returns-3 c = row-at (c .before .before .before .args .line) (search needs)
 
