@@ -1,0 +1,5 @@
+pub mod Bits
+pub mod Holding
+pub mod References
+pub mod Shifts
+pub mod Valid

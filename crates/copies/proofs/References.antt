@@ -1,0 +1,49 @@
+-- Remote references of one access, of none past the array, and of two lists of accesses in turn. Assumes nothing.
+use Prim.Native.Nat.{ℕ, _+_, _≤_}
+use native.Mathlib.Nat.{zero-add, add-zero, add-assoc}
+use native.Mathlib.Omega.{arith}
+use mathlib.Core.Path.{_≡_, refl, sym, ap, ap₂, _∙_}
+use mathlib.Core.Bool.{Bool, true, false, cond}
+use mathlib.Core.List.{List, [], _∷_, _++_}
+use lib.ListN.{getD, set, length, List·getD-eq-default}
+use Rattle.machine.specs.Lines.{Access}
+use Rattle.copies.specs.Copies.{hasCopy}
+use Rattle.copies.specs.Remote.{place, located, remoteOf, wordAfter, copiesAfter, referred}
+use Rattle.copies.proofs.Valid.{none-held}
+
+at-most-one : {r : ℕ} (b : Bool) → r ≡ cond b 0 1 → r ≤ 1
+at-most-one true e = omega arith
+at-most-one false e = omega arith
+
+-- an access past the array is remote
+pub remote-outside : (t : ℕ) (l : List ℕ) (at : ℕ) → length l ≤ at → _≡_ {A = ℕ} 1 (cond (hasCopy (getD l at 0) t) 0 1)
+remote-outside t l at h = rw (List·getD-eq-default l 0 h, none-held t)
+
+-- r and l′ are the remote references of a list of accesses, at most one, and the copies after it
+abbrev Made : ℕ → ℕ → List ℕ → List Access → ℕ → List ℕ → Type 0
+Made n t l xs r l′ = (r ≡ referred n t l xs .remote) × ((l′ ≡ referred n t l xs .copies) × (r ≤ 1))
+
+module _ (n t : ℕ) (l : List ℕ) (at : ℕ) where
+  -- one access, at its place
+  pub one-referred : {r : ℕ} {l′ : List ℕ} (a : Access) → at ≡ place (located a)
+      → r ≡ cond (hasCopy (getD l at 0) t) 0 1
+      → l′ ≡ set l at (wordAfter n t a (getD l at 0))
+      → Made n t l (a ∷ []) r l′
+  one-referred a e q s = (q ∙ rw e (sym (add-zero (remoteOf l t a))), (s ∙ rw e, at-most-one (hasCopy (getD l at 0) t) q))
+
+-- two lists of accesses in turn
+module _ (n t : ℕ) where
+  remote-append : (l : List ℕ) (xs ys : List Access) → referred n t l (xs ++ ys) .remote ≡ referred n t l xs .remote + referred n t (referred n t l xs .copies) ys .remote
+  remote-append l [] ys = sym (zero-add (referred n t l ys .remote))
+  remote-append l (x ∷ xs) ys = ap (λ (k : ℕ). remoteOf l t x + k) (remote-append (copiesAfter n t x l) xs ys) ∙ sym (add-assoc _ _ _)
+
+  copies-append : (l : List ℕ) (xs ys : List Access) → referred n t l (xs ++ ys) .copies ≡ referred n t (referred n t l xs .copies) ys .copies
+  copies-append l [] ys = refl
+  copies-append l (x ∷ xs) ys = copies-append (copiesAfter n t x l) xs ys
+
+  pub two-referred : {r r′ : ℕ} {l′ l″ : List ℕ} (l : List ℕ) (xs ys : List Access) → Made n t l xs r l′ → Made n t l′ ys r′ l″
+      → (r + r′ ≡ referred n t l (xs ++ ys) .remote) × (l″ ≡ referred n t l (xs ++ ys) .copies)
+  two-referred l xs ys p q = (
+    ap₂ _+_ (p .0) (q .0 ∙ ap (λ (m : List ℕ). referred n t m ys .remote) (p .1 .0)) ∙ sym (remote-append l xs ys),
+    q .1 .0 ∙ ap (λ (m : List ℕ). referred n t m ys .copies) (p .1 .0) ∙ sym (copies-append l xs ys),
+  )

@@ -1,0 +1,87 @@
+use Rattle.machine.specs.Lines.{part, tail, read, write, swap}
+use borrow.Author.Needs.{needs}
+use mathlib.Core.Path.{refl}
+use native.Mathlib.Omega.{arith}
+use Rattle.copies.proofs.References.{one-referred}
+use Rattle.copies.proofs.refer.Statement.{statement}
+use Rattle.copies.proofs.refer.Tie as tie
+
+enum-told : tie.Need-enum-told
+enum-told c = search needs
+
+enum-known-access : tie.Need-enum-known-access
+enum-known-access c = search needs
+
+place-requires : tie.Need-place-requires
+place-requires c κs = search needs
+
+refer-at-requires : tie.Need-refer-at-requires
+refer-at-requires c κs = search needs
+
+enum-known-access-2 : tie.Need-enum-known-access-2
+enum-known-access-2 c = search needs
+
+place-requires-2 : tie.Need-place-requires-2
+place-requires-2 c κs = search needs
+
+refer-at-requires-2 : tie.Need-refer-at-requires-2
+refer-at-requires-2 c κs = search needs
+
+enum-told-2 : tie.Need-enum-told-2
+enum-told-2 c = search needs
+
+refer-at-requires-3 : tie.Need-refer-at-requires-3
+refer-at-requires-3 c κs = search needs
+
+returns : tie.Need-returns
+returns c = rw (c .enum-told .given .1) (refl, (refl, omega arith))
+
+same-length : tie.Need-same-length
+same-length c = search needs
+
+returns-2 : tie.Need-returns-2
+returns-2 c =
+    let a = c .before .before .before .before .before .before .before .before .before .args in
+    let f = c .before .before .before .before .before .before .access .given in
+    let e = c .before .before .refer-at .ensures in
+    rw (f .1) (one-referred (a .n) (a .thread .0) (a .copies .now) (c .before .before .before .place .result) (read (part (a .node) (f .0 .0))) (c .before .before .before .place .ensures) (e .0) (e .1))
+
+same-length-2 : tie.Need-same-length-2
+same-length-2 c = search needs
+
+returns-3 : tie.Need-returns-3
+returns-3 c =
+    let a = c .before .before .before .before .before .before .before .before .before .args in
+    let f = c .before .before .before .before .before .before .access2 .given in
+    let e = c .before .before .refer-at2 .ensures in
+    rw (f .1) (one-referred (a .n) (a .thread .0) (a .copies .now) (c .before .before .before .place2 .result) (write (part (a .node) (f .0 .0))) (c .before .before .before .place2 .ensures) (e .0) (e .1))
+
+same-length-3 : tie.Need-same-length-3
+same-length-3 c = search needs
+
+returns-4 : tie.Need-returns-4
+returns-4 c =
+    let a = c .before .before .before .before .before .before .before .args in
+    let e = c .before .before .refer-at3 .ensures in
+    rw (c .before .before .before .before .enum-told2 .given .1) (one-referred (a .n) (a .thread .0) (a .copies .now) 0 (swap tail) refl (e .0) (e .1))
+
+pub refer-spec : {M : Type 1} → statement M
+refer-spec =
+    tie.close
+    (tie.spec
+    enum-told
+    enum-known-access
+    place-requires
+    refer-at-requires
+    enum-known-access-2
+    place-requires-2
+    refer-at-requires-2
+    enum-told-2
+    refer-at-requires-3
+    returns
+    same-length
+    returns-2
+    same-length-2
+    returns-3
+    same-length-3
+    returns-4)

@@ -1,0 +1,57 @@
+-- Remote references, from a list of accesses alone: document 01, 'Remote references'.
+use Prim.Native.Nat.{ℕ, _+_, _*_}
+use mathlib.Core.Bool.{Bool, cond}
+use mathlib.Core.List.{List, [], _∷_}
+use lib.ListN.{getD, set}
+use Rattle.machine.specs.declared.NodeId.{NodeId}
+use Rattle.machine.specs.declared.Field.{Field}
+use Rattle.machine.specs.declared.Field.the-variants.{Req, Ret, Wait, Completed, Next}
+use Rattle.machine.specs.Lines.{Location, tail, part, Access, read, write, swap}
+use Rattle.copies.specs.Copies.{hasCopy, afterRead, afterWrite}
+
+abbrev pub fieldNumber : Field → ℕ
+fieldNumber Req = 0
+fieldNumber Ret = 1
+fieldNumber Wait = 2
+fieldNumber Completed = 3
+fieldNumber Next = 4
+
+-- the place of a location among the copies: Tail, then the five fields of each node
+abbrev pub place : Location → ℕ
+place tail = 0
+place (part node field) = 1 + 5 * node .0 + fieldNumber field
+
+-- the location of an access
+abbrev pub located : Access → Location
+located (read l) = l
+located (write l) = l
+located (swap l) = l
+
+-- whether a thread has a valid copy of a location
+abbrev pub holds : List ℕ → ℕ → Location → Bool
+holds copies t l = hasCopy (getD copies (place l) 0) t
+
+-- an access is remote if its thread has no valid copy
+abbrev pub remoteOf : List ℕ → ℕ → Access → ℕ
+remoteOf copies t access = cond (holds copies t (located access)) 0 1
+
+-- afterwards the thread has a copy; a write or Swap ends every other thread's, of n threads
+abbrev pub wordAfter : ℕ → ℕ → Access → ℕ → ℕ
+wordAfter n t (read l) word = afterRead word t
+wordAfter n t (write l) word = afterWrite n word t
+wordAfter n t (swap l) word = afterWrite n word t
+
+abbrev pub copiesAfter : ℕ → ℕ → Access → List ℕ → List ℕ
+copiesAfter n t access copies =
+    set copies (place (located access)) (wordAfter n t access (getD copies (place (located access)) 0))
+
+-- how many remote references a list of accesses makes, and the copies after it
+pub record Referred : Type 0 where
+  pub remote : ℕ
+  pub copies : List ℕ
+
+abbrev pub referred : ℕ → ℕ → List ℕ → List Access → Referred
+referred n t copies [] = record { remote = 0; copies = copies }
+referred n t copies (access ∷ accesses) =
+    let rest = referred n t (copiesAfter n t access copies) accesses in
+    record { remote = remoteOf copies t access + rest .remote; copies = rest .copies }

@@ -1,0 +1,55 @@
+-- `state::in_range` meets its contract: the counts fit by their types. Assumes nothing.
+use Prim.Native.Nat.{_≤_}
+use mathlib.Core.Path.{_≡_, sym, _∙_}
+use mathlib.Core.Bool.{true}
+use borrow.Author.Needs.{needs}
+use borrow.Author.Tests.{not-true, not-false}
+use Rattle.state.specs.Range.{headInRange}
+use Rattle.state.proofs.Ranges.{head-told, tested, counts-fit}
+use Rattle.state.proofs.in_range.Statement.{statement}
+use Rattle.state.proofs.in_range.Tie as tie
+
+head-in-range-requires : tie.Need-head-in-range-requires
+head-in-range-requires c κs = search needs
+
+returns : tie.Need-returns
+returns c = rw (sym (c .before .head-in-range .ensures) ∙ not-true _ (c .if1 .taken))
+
+head : (c : tie.Else1) → headInRange (c .before .before .args .state) ≡ true
+head c = sym (c .before .head-in-range .ensures) ∙ not-false _ (c .if1 .left)
+
+most : (c : tie.Else1) → c .before .before .args .state .n ≤ 16
+most c = head-told (c .before .before .args .state) (head c) .most
+
+pointer-in-range-requires : tie.Need-pointer-in-range-requires
+pointer-in-range-requires c κs = search needs
+
+threads-in-range-requires : tie.Need-threads-in-range-requires
+threads-in-range-requires c κs = most (c .before .before .before .before .before)
+
+nodes-in-range-requires : tie.Need-nodes-in-range-requires
+nodes-in-range-requires c κs = most (c .before .before .before .before .before .before)
+
+rows-in-range-requires : tie.Need-rows-in-range-requires
+rows-in-range-requires c κs = most (c .before .before .before .before .before .before .before)
+
+returns-2 : tie.Need-returns-2
+returns-2 c =
+    let d = c .before .before .before in
+    let at = d .before .before .before .before .before in
+    let s = at .before .before .args .state in
+    let k = at .before .before .good .0 .1 .1 .1 .1 .1 .1 .1 .1 .1 .1 .1 .1 .0 .1 .1 in
+    tested s (head at) (d .pointer-in-range .ensures) (c .before .before .threads-in-range .ensures) (c .before .nodes-in-range .ensures) (c .rows-in-range .ensures)
+    (counts-fit (s .counts) (k .0 .1) (k .1 .0 .1) (k .1 .1 .0 .1) (k .1 .1 .1 .0 .1) (k .1 .1 .1 .1 .0 .1))
+
+pub in-range-spec : {M : Type 1} → statement M
+in-range-spec =
+    tie.close
+    (tie.spec
+    head-in-range-requires
+    returns
+    pointer-in-range-requires
+    threads-in-range-requires
+    nodes-in-range-requires
+    rows-in-range-requires
+    returns-2)

@@ -1,0 +1,91 @@
+-- The ranges of a state, number by number: document 01, 'A single step judges 14 ..'. What lies past n, a thread's count or the items held is not judged.
+use Prim.Native.Nat.{ℕ, _+_, _*_, _^_}
+use mathlib.Core.Bool.{Bool, true, false, _&&_, _||_}
+use mathlib.Core.List.{List, [], _∷_}
+use lib.ListN.{take, drop}
+use lib.Dec.{leb, ltb, eqb}
+use Rattle.object.specs.declared.Kind.{Kind}
+use Rattle.object.specs.Paper.{within}
+use Rattle.object.specs.Apply.{heldInRange, knows}
+use Rattle.machine.specs.declared.NodeId.{NodeId}
+use Rattle.machine.specs.declared.Announced.{Announced}
+use Rattle.machine.specs.declared.Announced.the-variants.{NoRequest, Asked}
+use Rattle.machine.specs.declared.Node.{Node}
+use Rattle.machine.specs.declared.Thread.{Thread}
+use Rattle.machine.specs.Effect.{isNull}
+use Rattle.state.specs.declared.Slot.{Slot}
+use Rattle.state.specs.declared.Counts.{Counts}
+use Rattle.state.specs.declared.State.{State}
+
+-- a test that each of a list passes
+abbrev pub every : {A : Type 0} → (A → Bool) → List A → Bool
+every p [] = true
+every p (x ∷ xs) = p x && every p xs
+
+-- a node, or null where that is allowed
+abbrev pub pointerInRange : ℕ → Bool → NodeId → Bool
+pointerInRange n nullable m = leb (m .0) n || isNull m && nullable
+
+-- line 0 (idle) or 2 to 21, the line to run next
+abbrev pub lineInRange : ℕ → Bool
+lineInRange line = eqb line 0 || within 2 line 21
+
+-- requests begun 0 to the thread's count, at least 1 if not idle; a count as in the file, 0 to 16
+abbrev pub begunInRange : Thread → Bool
+begunInRange th = leb (th .count) 16 && leb (th .begun) (th .count) && (eqb (th .line) 0 || leb 1 (th .begun))
+
+-- curNode is null only before line 6, tmpNode only before line 13 or at line 21; the served counter is 0 to h
+abbrev pub threadInRange : ℕ → ℕ → Thread → Bool
+threadInRange n h th =
+    begunInRange th
+    && lineInRange (th .line)
+    && pointerInRange n false (th .own)
+    && pointerInRange n (ltb (th .line) 6) (th .cur)
+    && pointerInRange n (ltb (th .line) 13 || eqb (th .line) 21) (th .tmp)
+    && pointerInRange n true (th .tmpnext)
+    && leb (th .served) h
+
+-- req is empty, or a request that the object knows
+abbrev pub reqInRange : Kind → Announced → Bool
+reqInRange kind NoRequest = true
+reqInRange kind (Asked request) = knows kind request
+
+-- any answer may stand in ret
+abbrev pub nodeInRange : Kind → ℕ → Node → Bool
+nodeInRange kind n x = reqInRange kind (x .req) && pointerInRange n true (x .next)
+
+abbrev pub slotInRange : Kind → Slot → Bool
+slotInRange kind slot = knows kind (slot .request)
+
+-- the requests of thread i: a row of 16 places each, as many as its count are used
+abbrev pub rowOfThread : List Slot → ℕ → ℕ → List Slot
+rowOfThread requests i count = take count (drop (16 * i) requests)
+
+-- the rows of threads, the first of them thread i
+abbrev pub rowsInRange : Kind → List Slot → ℕ → List Thread → Bool
+rowsInRange kind requests i [] = true
+rowsInRange kind requests i (th ∷ ths) =
+    every (slotInRange kind) (rowOfThread requests i (th .count)) && rowsInRange kind requests (i + 1) ths
+
+-- n, h, capacity and the items held as in the file
+abbrev pub headInRange : State → Bool
+headInRange s = within 1 (s .n) 16 && leb 1 (s .h) && heldInRange (s .kind) (s .capacity) (s .object .held)
+
+-- a count has 32 bits
+abbrev pub countsInRange : Counts → Bool
+countsInRange c =
+    ltb (c .records) (2 ^ 32)
+    && ltb (c .turns) (2 ^ 32)
+    && ltb (c .blanks) (2 ^ 32)
+    && ltb (c .spins) (2 ^ 32)
+    && ltb (c .remote) (2 ^ 32)
+
+-- a state is in range if each number that is judged is
+abbrev pub inRange : State → Bool
+inRange s =
+    headInRange s
+    && pointerInRange (s .n) false (s .tail)
+    && every (threadInRange (s .n) (s .h)) (take (s .n) (s .threads))
+    && every (nodeInRange (s .kind) (s .n)) (take (s .n + 1) (s .nodes))
+    && rowsInRange (s .kind) (s .requests) 0 (take (s .n) (s .threads))
+    && countsInRange (s .counts)

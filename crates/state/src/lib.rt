@@ -1,0 +1,204 @@
+// The state of a single step: the machine, the requests, the copies, the object and the counts; and whether each of its numbers is in range.
+ghost use mathlib.Core.Path.{_≡_};
+ghost use Prim.Native.Nat.{_+_, _≤_};
+ghost use lib.ListN.{take};
+ghost use Rattle.object.specs.Apply.{knows};
+ghost use Rattle.state.specs.Range.{every, pointerInRange, lineInRange, begunInRange, threadInRange, reqInRange, nodeInRange, slotInRange, rowOfThread, rowsInRange, headInRange, inRange};
+use machine::Announced;
+use machine::Node;
+use machine::NodeId;
+use machine::Thread;
+use object::Kind;
+use object::Object;
+use object::Request;
+
+// One place of the rows of requests.
+pub struct Slot {
+    pub request: Request,
+}
+
+// The five counts: Swaps done, turns begun, blanks, spins and remote references.
+pub struct Counts {
+    pub records: u32,
+    pub turns: u32,
+    pub blanks: u32,
+    pub spins: u32,
+    pub remote: u32,
+}
+
+// Thread i's requests stand from place 16 · i on. The copies of Tail come first, then those of the five fields of each node.
+pub struct State {
+    pub n: u8,
+    pub h: u8,
+    pub kind: Kind,
+    pub capacity: u8,
+    pub tail: NodeId,
+    pub threads: [Thread; 16],
+    pub nodes: [Node; 17],
+    pub requests: [Slot; 256],
+    pub copies: [u16; 86],
+    pub object: Object,
+    pub counts: Counts,
+}
+
+fn pointer_in_range(n: u8, nullable: bool, node: NodeId) -> bool
+    ensures { λ r. ⌜ r ≡ pointerInRange n nullable node ⌝ }
+{
+    let null = machine::is_null(node);
+    (node.0 <= n) | null & nullable
+}
+
+fn line_in_range(line: u8) -> bool
+    ensures { λ r. ⌜ r ≡ lineInRange line ⌝ }
+{
+    let printed = object::between(2, line, 21);
+    (line == 0) | printed
+}
+
+fn begun_in_range(thread: Thread) -> bool
+    ensures { λ r. ⌜ r ≡ begunInRange thread ⌝ }
+{
+    (thread.count <= 16)
+        & (thread.begun <= thread.count)
+        & ((thread.line == 0) | (1 <= thread.begun))
+}
+
+fn thread_in_range(n: u8, h: u8, thread: Thread) -> bool
+    ensures { λ r. ⌜ r ≡ threadInRange n h thread ⌝ }
+{
+    let line = thread.line;
+    let own = thread.own;
+    let cur = thread.cur;
+    let tmp = thread.tmp;
+    let tmpnext = thread.tmpnext;
+    let begun_fits = begun_in_range(thread);
+    let line_fits = line_in_range(line);
+    let own_fits = pointer_in_range(n, false, own);
+    let cur_fits = pointer_in_range(n, line < 6, cur);
+    let tmp_fits = pointer_in_range(n, (line < 13) | (line == 21), tmp);
+    let tmpnext_fits = pointer_in_range(n, true, tmpnext);
+    begun_fits & line_fits & own_fits & cur_fits & tmp_fits & tmpnext_fits & (thread.served <= h)
+}
+
+fn known(kind: Kind, request: Request) -> bool
+    ensures { λ r. ⌜ r ≡ knows kind request ⌝ }
+{
+    object::code_known(kind, object::request_code(request))
+}
+
+fn req_in_range(kind: Kind, req: Announced) -> bool
+    ensures { λ r. ⌜ r ≡ reqInRange kind req ⌝ }
+{
+    match req {
+        Announced::NoRequest => true,
+        Announced::Asked(request) => known(kind, request),
+    }
+}
+
+fn node_in_range(kind: Kind, n: u8, node: Node) -> bool
+    ensures { λ r. ⌜ r ≡ nodeInRange kind n node ⌝ }
+{
+    let req = node.req;
+    let next = node.next;
+    let req_fits = req_in_range(kind, req);
+    let next_fits = pointer_in_range(n, true, next);
+    req_fits & next_fits
+}
+
+fn threads_in_range(n: u8, h: u8, threads: [Thread; 16]) -> bool
+    requires { ⌜ n ≤ 16 ⌝ }
+    ensures { λ r. ⌜ r ≡ every (threadInRange n h) (take n threads) ⌝ }
+{
+    let count = n as usize;
+    let mut i: usize = 0;
+    while i < count {
+        let thread = threads[i];
+        if !thread_in_range(n, h, thread) {
+            return false;
+        }
+        i += 1;
+    }
+    true
+}
+
+fn nodes_in_range(kind: Kind, n: u8, nodes: [Node; 17]) -> bool
+    requires { ⌜ n ≤ 16 ⌝ }
+    ensures { λ r. ⌜ r ≡ every (nodeInRange kind n) (take (n + 1) nodes) ⌝ }
+{
+    let count = (n as usize) + 1;
+    let mut i: usize = 0;
+    while i < count {
+        let node = nodes[i];
+        if !node_in_range(kind, n, node) {
+            return false;
+        }
+        i += 1;
+    }
+    true
+}
+
+// The row of one thread.
+fn row_in_range(kind: Kind, requests: [Slot; 256], thread: usize, count: u8) -> bool
+    requires { ⌜ thread ≤ 15 ⌝ }
+    ensures { λ r. ⌜ r ≡ every (slotInRange kind) (rowOfThread requests thread count) ⌝ }
+{
+    let first = 16 * thread;
+    let end = first + (count as usize);
+    let mut i = first;
+    while (i < end) & (i < 256) {
+        let slot = requests[i];
+        let request = slot.request;
+        if !known(kind, request) {
+            return false;
+        }
+        i += 1;
+    }
+    true
+}
+
+fn rows_in_range(kind: Kind, requests: [Slot; 256], n: u8, threads: [Thread; 16]) -> bool
+    requires { ⌜ n ≤ 16 ⌝ }
+    ensures { λ r. ⌜ r ≡ rowsInRange kind requests 0 (take n threads) ⌝ }
+{
+    let count = n as usize;
+    let mut i: usize = 0;
+    while i < count {
+        let thread = threads[i];
+        if !row_in_range(kind, requests, i, thread.count) {
+            return false;
+        }
+        i += 1;
+    }
+    true
+}
+
+fn head_in_range(state: State) -> bool
+    ensures { λ r. ⌜ r ≡ headInRange state ⌝ }
+{
+    let object = state.object;
+    let kind = state.kind;
+    let n_fits = object::between(1, state.n, 16);
+    let held_fits = object::held_in_range(kind, state.capacity, object.held);
+    n_fits & (1 <= state.h) & held_fits
+}
+
+// Whether each number of a state that is judged is in its range.
+pub fn in_range(state: State) -> bool
+    ensures { λ r. ⌜ r ≡ inRange state ⌝ }
+{
+    if !head_in_range(state) {
+        return false;
+    }
+    let n = state.n;
+    let h = state.h;
+    let kind = state.kind;
+    let tail = state.tail;
+    let threads = state.threads;
+    let nodes = state.nodes;
+    let requests = state.requests;
+    let tail_fits = pointer_in_range(n, false, tail);
+    let threads_fit = threads_in_range(n, h, threads);
+    let nodes_fit = nodes_in_range(kind, n, nodes);
+    let rows_fit = rows_in_range(kind, requests, n, threads);
+    tail_fits & threads_fit & nodes_fit & rows_fit
+}
