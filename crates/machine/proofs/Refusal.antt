@@ -10,7 +10,7 @@ use Rattle.machine.specs.declared.NodeId.{NodeId}
 use Rattle.machine.specs.declared.Node.{Node}
 use Rattle.machine.specs.declared.Thread.{Thread}
 use Rattle.machine.specs.declared.Effect.{Effect}
-use Rattle.machine.specs.Lines.{lineOf}
+use Rattle.machine.specs.Lines.{lineOf, lineRun}
 use Rattle.machine.specs.Effect.{takesOut, ran, refusedEffect, effectOf}
 use Rattle.machine.proofs.Written.{told}
 
@@ -22,13 +22,16 @@ module _ (th : Thread) (x : Node) (h : ℕ) {line : ℕ} where
   -- a call begins only where a request is left
   pub begun-below : takesOut th x h line ≡ false → line ≡ 1 → th .begun < th .count
   begun-below e k =
-      leb-false (th .count) (th .begun) (left-false _ _ (left-false _ _ (left-false _ _ (left-false _ _ (rw k at e)))))
+      leb-false (th .count) (th .begun) (left-false _ _ (left-false _ _ (left-false _ _ (rw k at e))))
 
   -- and the served counter grows only below h
   pub served-below : takesOut th x h line ≡ false → line ≡ 14 → th .served < h
-  served-below e k = leb-false h (th .served) (left-false _ _ (left-false _ _ (left-false _ _ (rw k at e))))
+  served-below e k = leb-false h (th .served) (left-false _ _ (left-false _ _ (rw k at e)))
 
-module _ (th : Thread) (x : Node) (tail : NodeId) (h : ℕ) (request : Request) (answer : Answer) (line : ℕ) where
+module _ (th : Thread) (x : Node) (tail : NodeId) (h : ℕ) (request : Request) (answer : Answer) where
+  abbrev line : ℕ
+  line = lineRun th
+
   abbrev does : Bool → Effect
   does out = cond out (refusedEffect th x tail h request answer) (ran th x tail h request answer (lineOf line))
 
@@ -38,8 +41,8 @@ module _ (th : Thread) (x : Node) (tail : NodeId) (h : ℕ) (request : Request) 
   by-test false e = (refl, refl)
 
   -- a line that is not refused takes nothing out, and does what Algorithm 1 does
-  pub goes-through : effectOf th x tail h request answer line .refusal ≡ 0
-      → (takesOut th x h line ≡ false) × (effectOf th x tail h request answer line ≡ ran th x tail h request answer (lineOf line))
+  pub goes-through : effectOf th x tail h request answer .refusal ≡ 0
+      → (takesOut th x h line ≡ false) × (effectOf th x tail h request answer ≡ ran th x tail h request answer (lineOf line))
   goes-through = by-test (takesOut th x h line)
 
   refused-by : (out : Bool) → (does out .refusal ≡ 0 → ⊥) → out ≡ true
@@ -47,5 +50,5 @@ module _ (th : Thread) (x : Node) (tail : NodeId) (h : ℕ) (request : Request) 
   refused-by false e = absurd (e (told th x tail h request answer (lineOf line) .refusal))
 
   -- one that is refused would take a number out or use an empty req or ret
-  pub refused-out : (effectOf th x tail h request answer line .refusal ≡ 0 → ⊥) → takesOut th x h line ≡ true
+  pub refused-out : (effectOf th x tail h request answer .refusal ≡ 0 → ⊥) → takesOut th x h line ≡ true
   refused-out = refused-by (takesOut th x h line)

@@ -1,4 +1,5 @@
--- The table tells the truth about writes: a line changes no field of its node but those that its row writes, and Tail only by a Swap. Assumes nothing.
+-- The table tells the truth: by its row a line changes no field of its node but those that it writes, which it sets whatever they held,
+-- and Tail only by a Swap; and its thread after it depends on the fields that the row reads alone. Assumes nothing.
 use Prim.Native.Nat.{ℕ}
 use mathlib.Core.Path.{_≡_, refl}
 use Rattle.object.specs.declared.Request.{Request}
@@ -30,6 +31,20 @@ writtenFrom (Read field) y x = x
 writtenFrom (Write field) y x = fieldFrom field y x
 writtenFrom Swap y x = x
 
+-- the fields that an access reads, taken from another node
+abbrev pub readFrom : SharedAccess → Node → Node → Node
+readFrom NoAccess y x = x
+readFrom (Read field) y x = fieldFrom field y x
+readFrom (Write field) y x = x
+readFrom Swap y x = x
+
+-- the same for both accesses of a row
+abbrev pub rowWrites : Row → Node → Node → Node
+rowWrites row y x = writtenFrom (row .second) y (writtenFrom (row .first) y x)
+
+abbrev pub rowReads : Row → Node → Node → Node
+rowReads row y x = readFrom (row .second) y (readFrom (row .first) y x)
+
 -- Tail after an access
 abbrev pub tailFrom : SharedAccess → NodeId → NodeId → NodeId
 tailFrom NoAccess after tail = tail
@@ -37,33 +52,35 @@ tailFrom (Read field) after tail = tail
 tailFrom (Write field) after tail = tail
 tailFrom Swap after tail = after
 
--- what a line may change, by its row; Algorithm 1 itself refuses nothing
-pub record Told (row : Row) (x : Node) (before : NodeId) (e : Effect) : Type 0 where
-  pub refusal : e .refusal ≡ 0
-  pub node : e .node ≡ writtenFrom (row .second) (e .node) (writtenFrom (row .first) (e .node) x)
-  pub tail : e .tail ≡ tailFrom (row .first) (e .tail) before
+-- what a row tells of a line, whose effect on a node is given; Algorithm 1 itself refuses nothing
+pub record Told (row : Row) (x : Node) (before : NodeId) (does : Node → Effect) : Type 0 where
+  pub refusal : does x .refusal ≡ 0
+  pub node : does x .node ≡ rowWrites row (does x .node) x
+  pub sets : (y : Node) → does (rowWrites row y x) .node ≡ does x .node
+  pub tail : does x .tail ≡ tailFrom (row .first) (does x .tail) before
+  pub reads : (y : Node) → does (rowReads row x y) .thread ≡ does x .thread
 
 module _ (th : Thread) (x : Node) (tail : NodeId) (h : ℕ) (request : Request) (answer : Answer) where
-  pub told : (l : Line) → Told (rowOf l) x tail (ran th x tail h request answer l)
-  told Blank = record { refusal = refl; node = refl; tail = refl }
-  told L1 = record { refusal = refl; node = refl; tail = refl }
-  told L2 = record { refusal = refl; node = refl; tail = refl }
-  told L3 = record { refusal = refl; node = refl; tail = refl }
-  told L4 = record { refusal = refl; node = refl; tail = refl }
-  told L5 = record { refusal = refl; node = refl; tail = refl }
-  told L6 = record { refusal = refl; node = refl; tail = refl }
-  told L7 = record { refusal = refl; node = refl; tail = refl }
-  told L8 = record { refusal = refl; node = refl; tail = refl }
-  told L9 = record { refusal = refl; node = refl; tail = refl }
-  told L10 = record { refusal = refl; node = refl; tail = refl }
-  told L11 = record { refusal = refl; node = refl; tail = refl }
-  told L12 = record { refusal = refl; node = refl; tail = refl }
-  told L13 = record { refusal = refl; node = refl; tail = refl }
-  told L14 = record { refusal = refl; node = refl; tail = refl }
-  told L15 = record { refusal = refl; node = refl; tail = refl }
-  told L16 = record { refusal = refl; node = refl; tail = refl }
-  told L17 = record { refusal = refl; node = refl; tail = refl }
-  told L18 = record { refusal = refl; node = refl; tail = refl }
-  told L19 = record { refusal = refl; node = refl; tail = refl }
-  told L20 = record { refusal = refl; node = refl; tail = refl }
-  told L21 = record { refusal = refl; node = refl; tail = refl }
+  pub told : (l : Line) → Told (rowOf l) x tail (λ y. ran th y tail h request answer l)
+  told Blank = record { refusal = refl; node = refl; sets = λ y. refl; tail = refl; reads = λ y. refl }
+  told L1 = record { refusal = refl; node = refl; sets = λ y. refl; tail = refl; reads = λ y. refl }
+  told L2 = record { refusal = refl; node = refl; sets = λ y. refl; tail = refl; reads = λ y. refl }
+  told L3 = record { refusal = refl; node = refl; sets = λ y. refl; tail = refl; reads = λ y. refl }
+  told L4 = record { refusal = refl; node = refl; sets = λ y. refl; tail = refl; reads = λ y. refl }
+  told L5 = record { refusal = refl; node = refl; sets = λ y. refl; tail = refl; reads = λ y. refl }
+  told L6 = record { refusal = refl; node = refl; sets = λ y. refl; tail = refl; reads = λ y. refl }
+  told L7 = record { refusal = refl; node = refl; sets = λ y. refl; tail = refl; reads = λ y. refl }
+  told L8 = record { refusal = refl; node = refl; sets = λ y. refl; tail = refl; reads = λ y. refl }
+  told L9 = record { refusal = refl; node = refl; sets = λ y. refl; tail = refl; reads = λ y. refl }
+  told L10 = record { refusal = refl; node = refl; sets = λ y. refl; tail = refl; reads = λ y. refl }
+  told L11 = record { refusal = refl; node = refl; sets = λ y. refl; tail = refl; reads = λ y. refl }
+  told L12 = record { refusal = refl; node = refl; sets = λ y. refl; tail = refl; reads = λ y. refl }
+  told L13 = record { refusal = refl; node = refl; sets = λ y. refl; tail = refl; reads = λ y. refl }
+  told L14 = record { refusal = refl; node = refl; sets = λ y. refl; tail = refl; reads = λ y. refl }
+  told L15 = record { refusal = refl; node = refl; sets = λ y. refl; tail = refl; reads = λ y. refl }
+  told L16 = record { refusal = refl; node = refl; sets = λ y. refl; tail = refl; reads = λ y. refl }
+  told L17 = record { refusal = refl; node = refl; sets = λ y. refl; tail = refl; reads = λ y. refl }
+  told L18 = record { refusal = refl; node = refl; sets = λ y. refl; tail = refl; reads = λ y. refl }
+  told L19 = record { refusal = refl; node = refl; sets = λ y. refl; tail = refl; reads = λ y. refl }
+  told L20 = record { refusal = refl; node = refl; sets = λ y. refl; tail = refl; reads = λ y. refl }
+  told L21 = record { refusal = refl; node = refl; sets = λ y. refl; tail = refl; reads = λ y. refl }

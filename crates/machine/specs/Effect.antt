@@ -12,7 +12,7 @@ use Rattle.machine.specs.declared.RetVal.the-variants.{NoAnswer, Answere
 use Rattle.machine.specs.declared.Node.{Node}
 use Rattle.machine.specs.declared.Thread.{Thread}
 use Rattle.machine.specs.declared.Effect.{Effect}
-use Rattle.machine.specs.Lines.{Line, lineOf, Blank, L1, L2, L3, L4, L5, L6, L7, L8, L9, L10, L11, L12, L13, L14, L15, L16, L17, L18, L19, L20, L21}
+use Rattle.machine.specs.Lines.{Line, lineOf, lineRun, Blank, L1, L2, L3, L4, L5, L6, L7, L8, L9, L10, L11, L12, L13, L14, L15, L16, L17, L18, L19, L20, L21}
 
 -- null is no node's number
 abbrev pub null : NodeId
@@ -92,14 +92,19 @@ begins th = record {
   served = 0;
 }
 
--- a line that would take the requests begun past the count or the served counter past h, put null into tmpNode, or use an empty req or ret
+-- line 16 uses the req of its node, lines 11 and 21 the ret
+abbrev pub usesEmpty : Node → ℕ → Bool
+usesEmpty x line = eqb line 16 && isEmptyReq (x .req) || (eqb line 11 || eqb line 21) && isEmptyRet (x .ret)
+
+-- what the line of a thread in range can take out: the requests begun past the count, the served counter past h, null into tmpNode,
+-- or the use of an empty req or ret; and past 21 there is no line to run
 abbrev pub takesOut : Thread → Node → ℕ → ℕ → Bool
 takesOut th x h line =
-    eqb line 1 && leb (th .count) (th .begun)
+    ltb 21 line
+    || eqb line 1 && leb (th .count) (th .begun)
     || eqb line 14 && leb h (th .served)
     || eqb line 19 && isNull (th .tmpnext)
-    || eqb line 16 && isEmptyReq (x .req)
-    || (eqb line 11 || eqb line 21) && isEmptyRet (x .ret)
+    || usesEmpty x line
 
 -- the thread, the node that it points to and Tail; h; the request of the thread's call, and the object's answer to the node's req
 module _ (th : Thread) (x : Node) (tail : NodeId) (h : ℕ) (request : Request) (answer : Answer) where
@@ -136,10 +141,10 @@ module _ (th : Thread) (x : Node) (tail : NodeId) (h : ℕ) (request : Request) 
   ran L20 = writes (withWait x false) 21  -- tmpNode→wait = FALSE
   ran L21 = keeps (goes th 0)  -- return curNode→ret
 
-  -- such a line is 14, with all as it was
+  -- a line that takes something out is 14, with all as it was
   abbrev pub refusedEffect : Effect
   refusedEffect = record { refusal = 14; thread = th; node = x; tail = tail }
 
-  -- what the line of a number does
-  abbrev pub effectOf : ℕ → Effect
-  effectOf line = cond (takesOut th x h line) refusedEffect (ran (lineOf line))
+  -- what the thread's next line does
+  abbrev pub effectOf : Effect
+  effectOf = cond (takesOut th x h (lineRun th)) refusedEffect (ran (lineOf (lineRun th)))

@@ -43,7 +43,7 @@ pub data Line : Type 0 where
 abbrev pub printed : List Line
 printed = L1 ∷ L2 ∷ L3 ∷ L4 ∷ L5 ∷ L6 ∷ L7 ∷ L8 ∷ L9 ∷ L10 ∷ L11 ∷ L12 ∷ L13 ∷ L14 ∷ L15 ∷ L16 ∷ L17 ∷ L18 ∷ L19 ∷ L20 ∷ L21 ∷ []
 
--- the line of a number; a blank has the number 0, and past 21 there is no line
+-- the line of a number; a blank has the number 0, and past 21 there is no line either
 abbrev pub lineOf : ℕ → Line
 lineOf k = getD (Blank ∷ printed) k Blank
 
@@ -57,7 +57,7 @@ silent = record { node = Own; first = NoAccess; second = NoAccess }
 abbrev pub one : Pointer → SharedAccess → Row
 one node access = record { node = node; first = access; second = NoAccess }
 
--- the table: which node a line points to, and its accesses in order. Line 16 is two
+-- the table: which node a line points to, and its accesses in order. Line 16 is two. A line that accesses no node has the own node here, and leaves it
 abbrev pub rowOf : Line → Row
 rowOf Blank = silent
 rowOf L1 = silent
@@ -105,6 +105,6 @@ accessTo node (Read field) = read (part node field) ∷ []
 accessTo node (Write field) = write (part node field) ∷ []
 accessTo node Swap = swap tail ∷ []
 
--- the accesses of a line, in order: the only source of whatever is counted
+-- the accesses of a line, in order: the only source of remote references
 abbrev pub accessesOf : Row → NodeId → List Access
 accessesOf row node = accessTo node (row .first) ++ accessTo node (row .second)

@@ -3,7 +3,7 @@ ghost use mathlib.Core.Path.{_≡_};
 ghost use mathlib.Core.Bool.{false, cond, not, _&&_, _||_};
 ghost use lib.Dec.{leb, ltb, eqb};
 ghost use Rattle.machine.specs.Lines.{lineOf, lineRun, silent, rowOf, pointed};
-ghost use Rattle.machine.specs.Effect.{null, isNull, isEmptyReq, isEmptyRet, withReq, withRet, takesOut, ran, effectOf};
+ghost use Rattle.machine.specs.Effect.{null, isNull, isEmptyReq, isEmptyRet, withReq, withRet, usesEmpty, takesOut, ran, effectOf};
 use object::Answer;
 use object::Request;
 
@@ -271,21 +271,29 @@ pub fn pointed(pointer: Pointer, thread: Thread) -> NodeId
     }
 }
 
-// A line that would take a number out of its range or use an empty req or ret.
-fn takes_out(line: u8, thread: Thread, node: Node, h: u8) -> bool
-    ensures { λ r. ⌜ r ≡ takesOut thread node h line ⌝ }
+// Line 16 uses the req of its node, lines 11 and 21 the ret.
+fn uses_empty(node: Node, line: u8) -> bool
+    ensures { λ r. ⌜ r ≡ usesEmpty node line ⌝ }
 {
     let req = node.req;
     let ret = node.ret;
-    let tmpnext = thread.tmpnext;
     let no_req = is_empty_req(req);
     let no_ret = is_empty_ret(ret);
+    (line == 16) & no_req | ((line == 11) | (line == 21)) & no_ret
+}
+
+// What a line can take out: a number of its thread, or the use of an empty req or ret.
+fn takes_out(line: u8, thread: Thread, node: Node, h: u8) -> bool
+    ensures { λ r. ⌜ r ≡ takesOut thread node h line ⌝ }
+{
+    let tmpnext = thread.tmpnext;
     let no_next = is_null(tmpnext);
-    (line == 1) & (thread.count <= thread.begun)
+    let empty = uses_empty(node, line);
+    (line > 21)
+        | (line == 1) & (thread.count <= thread.begun)
         | (line == 14) & (h <= thread.served)
         | (line == 19) & no_next
-        | (line == 16) & no_req
-        | ((line == 11) | (line == 21)) & no_ret
+        | empty
 }
 
 fn either(test: bool, yes: u8, no: u8) -> u8
@@ -322,7 +330,7 @@ fn with_ret(node: Node, answer: Answer) -> Node
     }
 }
 
-// Algorithm 1, one printed line. The request is that of the thread's call, the answer the object's to the node's req.
+// Algorithm 1, one printed line.
 fn ran(
     line: u8,
     thread: Thread,
@@ -438,9 +446,9 @@ fn ran(
     }
 }
 
-// What a line does to its thread, to the node that it points to and to Tail; 14 if it would take a number out or use an empty req or ret.
+// What the next line of a thread does to it, to the node that it points to and to Tail; 14 if it would take a number of the thread out or use an
+// empty req or ret. The request is that of the thread's call, the answer the object's to the node's req.
 pub fn run_line(
-    line: u8,
     thread: Thread,
     node: Node,
     tail: NodeId,
@@ -448,8 +456,9 @@ pub fn run_line(
     request: Request,
     answer: Answer,
 ) -> Effect
-    ensures { λ r. ⌜ r ≡ effectOf thread node tail h request answer line ⌝ }
+    ensures { λ r. ⌜ r ≡ effectOf thread node tail h request answer ⌝ }
 {
+    let line = line_run(thread);
     if takes_out(line, thread, node, h) {
         return Effect {
             refusal: 14,

@@ -1,2 +1,3 @@
-pub mod Ranges
+pub mod Kept
+pub mod RangeFacts
 pub mod Walks

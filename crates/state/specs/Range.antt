@@ -30,14 +30,14 @@ pointerInRange n nullable m = leb (m .0) n || isNull m && nullable
 abbrev pub lineInRange : ℕ → Bool
 lineInRange line = eqb line 0 || within 2 line 21
 
--- requests begun 0 to the thread's count, at least 1 if not idle; a count as in the file, 0 to 16
-abbrev pub begunInRange : Thread → Bool
-begunInRange th = leb (th .count) 16 && leb (th .begun) (th .count) && (eqb (th .line) 0 || leb 1 (th .begun))
+-- a thread's count as in the file, 0 to 16; requests begun 0 to the count, at least 1 if not idle
+abbrev pub requestsInRange : Thread → Bool
+requestsInRange th = leb (th .count) 16 && leb (th .begun) (th .count) && (eqb (th .line) 0 || leb 1 (th .begun))
 
 -- curNode is null only before line 6, tmpNode only before line 13 or at line 21; the served counter is 0 to h
 abbrev pub threadInRange : ℕ → ℕ → Thread → Bool
 threadInRange n h th =
-    begunInRange th
+    requestsInRange th
     && lineInRange (th .line)
     && pointerInRange n false (th .own)
     && pointerInRange n (ltb (th .line) 6) (th .cur)
@@ -67,9 +67,9 @@ rowsInRange kind requests i [] = true
 rowsInRange kind requests i (th ∷ ths) =
     every (slotInRange kind) (rowOfThread requests i (th .count)) && rowsInRange kind requests (i + 1) ths
 
--- n, h, capacity and the items held as in the file
+-- n, h and capacity as in the file, the items held 0 to the capacity. Any object is one of the file's, and its values and sum may be any
 abbrev pub headInRange : State → Bool
-headInRange s = within 1 (s .n) 16 && leb 1 (s .h) && heldInRange (s .kind) (s .capacity) (s .object .held)
+headInRange s = within 1 (s .n) 16 && within 1 (s .h) 255 && heldInRange (s .kind) (s .capacity) (s .object .held)
 
 -- a count has 32 bits
 abbrev pub countsInRange : Counts → Bool

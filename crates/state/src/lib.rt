@@ -3,7 +3,7 @@ ghost use mathlib.Core.Path.{_≡_};
 ghost use Prim.Native.Nat.{_+_, _≤_};
 ghost use lib.ListN.{take};
 ghost use Rattle.object.specs.Apply.{knows};
-ghost use Rattle.state.specs.Range.{every, pointerInRange, lineInRange, begunInRange, threadInRange, reqInRange, nodeInRange, slotInRange, rowOfThread, rowsInRange, headInRange, inRange};
+ghost use Rattle.state.specs.Range.{every, pointerInRange, lineInRange, requestsInRange, threadInRange, reqInRange, nodeInRange, slotInRange, rowOfThread, rowsInRange, headInRange, inRange};
 use machine::Announced;
 use machine::Node;
 use machine::NodeId;
@@ -55,8 +55,8 @@ fn line_in_range(line: u8) -> bool
     (line == 0) | printed
 }
 
-fn begun_in_range(thread: Thread) -> bool
-    ensures { λ r. ⌜ r ≡ begunInRange thread ⌝ }
+fn requests_in_range(thread: Thread) -> bool
+    ensures { λ r. ⌜ r ≡ requestsInRange thread ⌝ }
 {
     (thread.count <= 16)
         & (thread.begun <= thread.count)
@@ -71,13 +71,13 @@ fn thread_in_range(n: u8, h: u8, thread: Thread) -> bool
     let cur = thread.cur;
     let tmp = thread.tmp;
     let tmpnext = thread.tmpnext;
-    let begun_fits = begun_in_range(thread);
+    let requests_fit = requests_in_range(thread);
     let line_fits = line_in_range(line);
     let own_fits = pointer_in_range(n, false, own);
     let cur_fits = pointer_in_range(n, line < 6, cur);
     let tmp_fits = pointer_in_range(n, (line < 13) | (line == 21), tmp);
     let tmpnext_fits = pointer_in_range(n, true, tmpnext);
-    begun_fits & line_fits & own_fits & cur_fits & tmp_fits & tmpnext_fits & (thread.served <= h)
+    requests_fit & line_fits & own_fits & cur_fits & tmp_fits & tmpnext_fits & (thread.served <= h)
 }
 
 fn known(kind: Kind, request: Request) -> bool
@@ -178,8 +178,9 @@ fn head_in_range(state: State) -> bool
     let object = state.object;
     let kind = state.kind;
     let n_fits = object::between(1, state.n, 16);
+    let h_fits = object::between(1, state.h, 255);
     let held_fits = object::held_in_range(kind, state.capacity, object.held);
-    n_fits & (1 <= state.h) & held_fits
+    n_fits & h_fits & held_fits
 }
 
 // Whether each number of a state that is judged is in its range.

@@ -1,20 +1,30 @@
 -- `machine::run_line` meets its contract: 14, or what the line does. Assumes nothing.
-use mathlib.Core.Path.{_∙_, sym}
+use mathlib.Core.Path.{_≡_, sym, _∙_}
 use borrow.Author.Needs.{needs}
+use Rattle.machine.specs.Lines.{lineRun}
+use Rattle.machine.specs.Effect.{takesOut}
 use Rattle.machine.proofs.run_line.Statement.{statement}
 use Rattle.machine.proofs.run_line.Tie as tie
+
+-- the test that the contract speaks of
+out : (c : tie.After-takes-out) → c .takes-out .result ≡ takesOut (c .before .before .args .thread) (c .before .before .args .node) (c .before .before .args .h) (lineRun (c .before .before .args .thread))
+out c = rw (← c .before .line-run .ensures) (c .takes-out .ensures)
+
+line-run-requires : tie.Need-line-run-requires
+line-run-requires c κs = search needs
 
 takes-out-requires : tie.Need-takes-out-requires
 takes-out-requires c κs = search needs
 
 returns : tie.Need-returns
-returns c = simp (← c .before .takes-out .ensures, c .if1 .taken)
+returns c = rw (← out (c .before), c .if1 .taken)
 
 ran-requires : tie.Need-ran-requires
 ran-requires c κs = sym (c .before .takes-out .ensures) ∙ c .if1 .left
 
 returns-2 : tie.Need-returns-2
-returns-2 c = simp (← c .before .before .takes-out .ensures, c .before .if1 .left, c .ran .ensures)
+returns-2 c = c .ran .ensures ∙ rw (← out (c .before .before), c .before .if1 .left, c .before .before .before .line-run .ensures)
 
 pub run-line-spec : {M : Type 1} → statement M
-run-line-spec = tie.close (tie.spec takes-out-requires returns ran-requires returns-2)
+run-line-spec =
+    tie.close (tie.spec line-run-requires takes-out-requires returns ran-requires returns-2)

@@ -6,11 +6,14 @@ use Rattle.state.proofs.head_in_range.Tie as tie
 between-requires : tie.Need-between-requires
 between-requires c κs = search needs
 
+between-requires-2 : tie.Need-between-requires-2
+between-requires-2 c κs = search needs
+
 held-in-range-requires : tie.Need-held-in-range-requires
 held-in-range-requires c κs = search needs
 
 returns : tie.Need-returns
-returns c = simp (c .before .before .between .ensures, c .before .held-in-range .ensures)
+returns c = simp (c .before .before .between .ensures, c .before .between2 .ensures, c .held-in-range .ensures)
 
 pub head-in-range-spec : {M : Type 1} → statement M
-head-in-range-spec = tie.close (tie.spec between-requires held-in-range-requires returns)
+head-in-range-spec = tie.close (tie.spec between-requires between-requires-2 held-in-range-requires returns)

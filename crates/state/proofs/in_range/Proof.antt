@@ -1,11 +1,11 @@
 -- `state::in_range` meets its contract: the counts fit by their types. Assumes nothing.
 use Prim.Native.Nat.{_≤_}
 use mathlib.Core.Path.{_≡_, sym, _∙_}
-use mathlib.Core.Bool.{true}
+use mathlib.Core.Bool.{true, and-true}
 use borrow.Author.Needs.{needs}
 use borrow.Author.Tests.{not-true, not-false}
-use Rattle.state.specs.Range.{headInRange}
-use Rattle.state.proofs.Ranges.{head-told, tested, counts-fit}
+use Rattle.state.specs.Range.{headInRange, countsInRange}
+use Rattle.state.proofs.RangeFacts.{counts-iff, few-threads}
 use Rattle.state.proofs.in_range.Statement.{statement}
 use Rattle.state.proofs.in_range.Tie as tie
 
@@ -19,7 +19,7 @@ head : (c : tie.Else1) → headInRange (c .before .before .args .state) ≡ true
 head c = sym (c .before .head-in-range .ensures) ∙ not-false _ (c .if1 .left)
 
 most : (c : tie.Else1) → c .before .before .args .state .n ≤ 16
-most c = head-told (c .before .before .args .state) (head c) .most
+most c = few-threads (c .before .before .args .state) (head c)
 
 pointer-in-range-requires : tie.Need-pointer-in-range-requires
 pointer-in-range-requires c κs = search needs
@@ -39,8 +39,14 @@ returns-2 c =
     let at = d .before .before .before .before .before in
     let s = at .before .before .args .state in
     let k = at .before .before .good .0 .1 .1 .1 .1 .1 .1 .1 .1 .1 .1 .1 .1 .0 .1 .1 in
-    tested s (head at) (d .pointer-in-range .ensures) (c .before .before .threads-in-range .ensures) (c .before .nodes-in-range .ensures) (c .rows-in-range .ensures)
-    (counts-fit (s .counts) (k .0 .1) (k .1 .0 .1) (k .1 .1 .0 .1) (k .1 .1 .1 .0 .1) (k .1 .1 .1 .1 .0 .1))
+    let counts : countsInRange (s .counts) ≡ true = counts-iff (s .counts) .1 (record {
+      records = k .0 .1;
+      turns = k .1 .0 .1;
+      blanks = k .1 .1 .0 .1;
+      spins = k .1 .1 .1 .0 .1;
+      remote = k .1 .1 .1 .1 .0 .1;
+    }) in
+    rw (head at, counts, d .pointer-in-range .ensures, c .before .before .threads-in-range .ensures, c .before .nodes-in-range .ensures, c .rows-in-range .ensures) (sym (and-true _))
 
 pub in-range-spec : {M : Type 1} → statement M
 in-range-spec =

@@ -3,8 +3,8 @@ use borrow.Author.Needs.{needs}
 use Rattle.state.proofs.thread_in_range.Statement.{statement}
 use Rattle.state.proofs.thread_in_range.Tie as tie
 
-begun-in-range-requires : tie.Need-begun-in-range-requires
-begun-in-range-requires c κs = search needs
+requests-in-range-requires : tie.Need-requests-in-range-requires
+requests-in-range-requires c κs = search needs
 
 line-in-range-requires : tie.Need-line-in-range-requires
 line-in-range-requires c κs = search needs
@@ -25,7 +25,7 @@ returns : tie.Need-returns
 returns c =
     let d = c .before .before .before .before in
     simp (
-      d .before .before .begun-in-range .ensures,
+      d .before .before .requests-in-range .ensures,
       d .before .line-in-range .ensures,
       d .pointer-in-range .ensures,
       c .before .before .before .pointer-in-range2 .ensures,
@@ -37,7 +37,7 @@ pub thread-in-range-spec : {M : Type 1} → statement M
 thread-in-range-spec =
     tie.close
     (tie.spec
-    begun-in-range-requires
+    requests-in-range-requires
     line-in-range-requires
     pointer-in-range-requires
     pointer-in-range-requires-2

@@ -1,0 +1,52 @@
+-- The fresh machine of document 01: all threads idle, no request begun, no copies, the object empty or 0, all counts 0.
+use Prim.Native.Nat.{ℕ, _+_}
+use mathlib.Core.Bool.{false}
+use mathlib.Core.List.{List, [], _∷_}
+use lib.ListN.{replicate}
+use Rattle.object.specs.declared.Kind.{Kind}
+use Rattle.object.specs.Apply.{freshObject}
+use Rattle.machine.specs.declared.Announced.the-variants.{NoRequest}
+use Rattle.machine.specs.declared.RetVal.the-variants.{NoAnswer}
+use Rattle.machine.specs.declared.Node.{Node}
+use Rattle.machine.specs.declared.Thread.{Thread}
+use Rattle.machine.specs.Effect.{null}
+use Rattle.state.specs.declared.Slot.{Slot}
+use Rattle.state.specs.declared.State.{State}
+
+-- next is null, wait and completed are false, req and ret are empty
+abbrev pub freshNode : Node
+freshNode = record { req = NoRequest; ret = NoAnswer; wait = false; completed = false; next = null }
+
+-- thread i is idle, has begun no request and starts with node i + 1
+abbrev pub freshThread : ℕ → ℕ → Thread
+freshThread i count = record {
+  count = count;
+  begun = 0;
+  line = 0;
+  own = record { 0 = i + 1 };
+  cur = null;
+  tmp = null;
+  tmpnext = null;
+  served = 0;
+}
+
+-- threads from number i on, one for each count
+abbrev pub freshThreads : ℕ → List ℕ → List Thread
+freshThreads i [] = []
+freshThreads i (count ∷ counts) = freshThread i count ∷ freshThreads (i + 1) counts
+
+-- the machine of a file's head, its counts and its requests: node 0 is the first dummy, and Tail points to it
+abbrev pub freshState : Kind → ℕ → ℕ → ℕ → List ℕ → List Slot → State
+freshState kind n h capacity counts requests = record {
+  n = n;
+  h = h;
+  kind = kind;
+  capacity = capacity;
+  tail = record { 0 = 0 };
+  threads = freshThreads 0 counts;
+  nodes = replicate 17 freshNode;
+  requests = requests;
+  copies = replicate 86 0;
+  object = freshObject;
+  counts = record { records = 0; turns = 0; blanks = 0; spins = 0; remote = 0 };
+}
