@@ -1,0 +1,115 @@
+-- What `enter` puts together, one equation for each of its calls, is the outcome of the entry; and the order in which `step` judges. Assumes nothing.
+use Prim.Native.Nat.{ℕ, _+_, _-_, _*_, _<_, _≤_}
+use mathlib.Core.Path.{_≡_, refl, sym, ap, _∙_}
+use mathlib.Core.Bool.{Bool, true, false, cond, not, _&&_}
+use mathlib.Core.List.{List}
+use lib.ListN.{getD, set}
+use borrow.Author.Tests.{le-leb, lt-leb}
+use Rattle.object.specs.declared.Applied.{Applied}
+use Rattle.machine.specs.declared.ThreadId.{ThreadId}
+use Rattle.machine.specs.declared.NodeId.{NodeId}
+use Rattle.machine.specs.declared.Row.{Row}
+use Rattle.machine.specs.declared.Effect.{Effect}
+use Rattle.machine.specs.Lines.{lineOf, rowOf, pointed, accessesOf}
+use Rattle.machine.specs.Effect.{takesOut, effectOf}
+use Rattle.machine.proofs.Refusal.{goes-through, refused-out}
+use Rattle.copies.specs.Remote.{referred}
+use Rattle.state.specs.declared.Counts.{Counts}
+use Rattle.state.specs.declared.State.{State}
+use Rattle.state.specs.Range.{inRange, countsInRange}
+use Rattle.state.specs.Shape.{Shaped}
+use Rattle.step.specs.declared.Stepped.{Stepped}
+use Rattle.step.specs.Entry.{zeroNode, zeroSlot, appliedAt, moreOf, plus, named, line, row, target, node, request, applied, effect, countsAfter, entered}
+use Rattle.step.specs.Step.{refused, outcomeOf, stepOf}
+use Rattle.step.proofs.Outcome.{goes-through-exactly}
+
+-- what the calls of `enter` answered, in order
+pub record Called (s : State) (t : ThreadId) (k : ℕ) (r : Row) (m : NodeId) (p : ℕ) (ob : Applied) (e : Effect) (remote : ℕ) (copies : List ℕ) (more : Counts) : Type 0 where
+  pub line-run : k ≡ line s t
+  pub row-of : r ≡ rowOf (lineOf k)
+  pub pointed-to : m ≡ pointed (r .node) (named s t)
+  pub place : p ≡ 16 * t .0 + (named s t .begun - 1)
+  pub applied-at : ob ≡ appliedAt k (s .kind) (s .capacity) (s .object) (getD (s .nodes) (m .0) zeroNode .req)
+  pub effect-of : e ≡ effectOf (named s t) (getD (s .nodes) (m .0) zeroNode) (s .tail) (s .h) (getD (s .requests) p zeroSlot .request) (ob .answer)
+  pub remote-of : remote ≡ referred (s .n) (t .0) (s .copies) (accessesOf r m) .remote
+  pub copies-of : copies ≡ referred (s .n) (t .0) (s .copies) (accessesOf r m) .copies
+  pub more-of : more ≡ moreOf k (getD (s .nodes) (m .0) zeroNode .wait) remote
+
+-- the node that is pointed to
+pub is-target : (s : State) (t : ThreadId) {k : ℕ} {r : Row} {m : NodeId} → k ≡ line s t → r ≡ rowOf (lineOf k) → m ≡ pointed (r .node) (named s t)
+    → m ≡ target s t
+is-target s t ek er em = let er′ : _ ≡ row s t = rw ek at er in rw er′ at em
+
+module _ (s : State) (t : ThreadId) (shape : Shaped s) (fits : inRange s ≡ true) (below : t .0 < s .n) where
+  -- what `run_line` answers
+  abbrev answer : Effect
+  answer = effectOf (named s t) (node s t) (s .tail) (s .h) (request s t) (applied s t .answer)
+
+  through : answer .refusal ≡ 0
+      → (takesOut (named s t) (node s t) (s .h) (line s t) ≡ false) × (answer ≡ effect s t)
+  through = goes-through (named s t) (node s t) (s .tail) (s .h) (request s t) (applied s t .answer)
+
+  by-outcome : {out small : Bool} → takesOut (named s t) (node s t) (s .h) (line s t) ≡ out → countsInRange (countsAfter s t) ≡ small
+      → outcomeOf s t ≡ cond (not out && small) (record { refusal = 0; state = entered s t }) (refused 14 s)
+  by-outcome e f = rw (goes-through-exactly s t shape fits below, e, f) refl
+
+  module _ {k : ℕ} {r : Row} {m : NodeId} {p : ℕ} {ob : Applied} {e : Effect} {remote : ℕ} {copies : List ℕ} {more : Counts}
+      (called : Called s t k r m p ob e remote copies more) where
+    is-row : r ≡ row s t
+    is-row = rw (called .line-run) at (called .row-of)
+
+    at-target : m ≡ target s t
+    at-target = is-target s t (called .line-run) (called .row-of) (called .pointed-to)
+
+    is-applied : ob ≡ applied s t
+    is-applied = rw (called .line-run, at-target) at (called .applied-at)
+
+    is-answer : e ≡ answer
+    is-answer = rw (at-target, called .place, is-applied) at (called .effect-of)
+
+    sums : plus (s .counts) more ≡ countsAfter s t
+    sums = rw (called .more-of, called .remote-of, called .line-run, is-row, at-target) refl
+
+    -- the line is refused
+    pub line-refused : (e .refusal ≡ 0 → ⊥) → refused 14 s ≡ outcomeOf s t
+    line-refused h =
+        sym (by-outcome (refused-out (named s t) (node s t) (s .tail) (s .h) (request s t) (applied s t .answer) (rw is-answer at h)) refl)
+
+    -- a count would pass 32 bits
+    pub counts-refused : e .refusal ≡ 0 → countsInRange (plus (s .counts) more) ≡ false → refused 14 s ≡ outcomeOf s t
+    counts-refused h f = sym (by-outcome (through (rw is-answer at h) .0) (ap countsInRange (sym sums) ∙ f))
+
+    -- the entry goes through
+    pub accepted : {counts : Counts} → e .refusal ≡ 0 → countsInRange (plus (s .counts) more) ≡ true → counts ≡ plus (s .counts) more
+        → _≡_ {A = Stepped}
+        (record {
+          refusal = 0;
+          state = record {
+            n = s .n;
+            h = s .h;
+            kind = s .kind;
+            capacity = s .capacity;
+            tail = e .tail;
+            threads = set (s .threads) (t .0) (e .thread);
+            nodes = set (s .nodes) (m .0) (e .node);
+            requests = s .requests;
+            copies = copies;
+            object = ob .object;
+            counts = counts;
+          };
+        })
+        (outcomeOf s t)
+    accepted h f ep =
+        let g = through (rw is-answer at h) in
+        rw (ep, sums, is-answer, g .1, called .copies-of, at-target, is-row, is-applied) (sym (by-outcome (g .0) (ap countsInRange (sym sums) ∙ f)))
+
+-- the order of the step: the state, the entry, the outcome
+module _ (s : State) (t : ThreadId) where
+  pub state-refused : inRange s ≡ false → refused 14 s ≡ stepOf s t
+  state-refused e = rw e
+
+  pub entry-refused : inRange s ≡ true → s .n ≤ t .0 → refused 11 s ≡ stepOf s t
+  entry-refused e h = rw (e, le-leb (s .n) (t .0) h)
+
+  pub steps-on : inRange s ≡ true → t .0 < s .n → outcomeOf s t ≡ stepOf s t
+  steps-on e h = rw (e, lt-leb (s .n) (t .0) h)

@@ -1,0 +1,5 @@
+pub mod Computed
+pub mod EachLine
+pub mod Entering
+pub mod Numbers
+pub mod Outcome

@@ -1,0 +1,71 @@
+-- The line that a thread in range runs, as a line and not a number. Assumes nothing.
+use Prim.Native.Nat.{ℕ, zero, suc, _+_, _≤_, _<_}
+use native.Mathlib.Omega.{arith}
+use mathlib.Core.Path.{_≡_, refl}
+use mathlib.Core.Bool.{Bool, true, false, cond, false≢true, and-eq-true-iff}
+use mathlib.Core.List.{List, [], _∷_}
+use lib.Dec.{leb, eqb, eqb·suc-zero}
+use lib.ListN.{length, getD}
+use borrow.Author.Tests.{leb-true, lt-leb}
+use Rattle.machine.specs.Lines.{Line, printed, lineOf, Blank, L1, L2, L3, L4, L5, L6, L7, L8, L9, L10, L11, L12, L13, L14, L15, L16, L17, L18, L19, L20, L21}
+use Rattle.state.specs.Range.{lineInRange}
+
+-- the number of a line
+abbrev pub number : Line → ℕ
+number Blank = 0
+number L1 = 1
+number L2 = 2
+number L3 = 3
+number L4 = 4
+number L5 = 5
+number L6 = 6
+number L7 = 7
+number L8 = 8
+number L9 = 9
+number L10 = 10
+number L11 = 11
+number L12 = 12
+number L13 = 13
+number L14 = 14
+number L15 = 15
+number L16 = 16
+number L17 = 17
+number L18 = 18
+number L19 = 19
+number L20 = 20
+number L21 = 21
+
+-- the numbers of a list's lines are i and those that follow
+abbrev Numbered : ℕ → List Line → Type 0
+Numbered i [] = Unit
+Numbered i (l ∷ ls) = (number l ≡ i) × Numbered (suc i) ls
+
+number-at : (i : ℕ) (ls : List Line) (k : ℕ) → Numbered i ls → k < length ls → number (getD ls k Blank) ≡ i + k
+number-at i [] k e h = absurd (omega arith)
+number-at i (l ∷ ls) zero e h = omega arith
+number-at i (l ∷ ls) (suc k) e h = omega (arith, number-at (suc i) ls k (e .1) (omega arith))
+
+pub number-of : (k : ℕ) → k ≤ 21 → number (lineOf k) ≡ k
+number-of k h = omega (arith, number-at 0 (Blank ∷ printed) k (omega arith) (omega arith))
+
+-- where a thread stands that runs a line: a blank and line 1 run from idle
+abbrev pub standsAt : ℕ → ℕ
+standsAt k = cond (leb k 1) 0 k
+
+-- a thread that stands at a line, with requests left or not, runs line k
+pub record Runs (stand : ℕ) (left : Bool) (k : ℕ) : Type 0 where
+  pub stands : stand ≡ standsAt k
+  pub printed : k ≤ 21
+  pub begins : k ≡ 1 → left ≡ true
+
+pub runs : (line : ℕ) (left : Bool) → lineInRange line ≡ true → Runs line left (cond (eqb line 0) (cond left 1 0) line)
+runs zero true e = record { stands = refl; printed = omega arith; begins = λ _. refl }
+runs zero false e = record { stands = refl; printed = omega arith; begins = λ h. absurd (omega arith) }
+runs (suc zero) left e = absurd (false≢true e)
+runs (suc (suc k)) left e =
+    let p = simp (eqb·suc-zero, and-eq-true-iff) at e in
+    rw eqb·suc-zero (record {
+      stands = rw (lt-leb (suc (suc k)) 1 (omega arith));
+      printed = leb-true _ _ (p .1);
+      begins = λ h. absurd (omega arith);
+    })

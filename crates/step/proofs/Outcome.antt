@@ -1,0 +1,116 @@
+-- A single step goes through exactly if its line takes no number out, uses no empty req or ret and leaves the counts in 32 bits. Assumes a state of full arrays, in range, and a thread below n.
+use Prim.Native.Nat.{ℕ, _+_, _-_, _≤_, _<_}
+use native.Mathlib.Omega.{arith}
+use mathlib.Core.Path.{_≡_, subst, ap, _∙_}
+use mathlib.Core.Bool.{Bool, true, false, cond, not, _&&_, and-true, and-assoc, and-eq-true-iff}
+use lib.Dec.{ltb, eqb}
+use lib.ListN.{length, take}
+use lib.Ieee.Bits.{is-true}
+use borrow.Author.Tests.{ltb-true}
+use Rattle.object.specs.declared.Kind.{Kind}
+use Rattle.object.specs.declared.Object.{Object}
+use Rattle.object.specs.declared.Answer.the-variants.{Empty}
+use Rattle.object.specs.Paper.{within}
+use Rattle.object.specs.Apply.{knows, heldInRange, answered}
+use Rattle.object.proofs.Plainly.{applies-plainly}
+use Rattle.machine.specs.declared.ThreadId.{ThreadId}
+use Rattle.machine.specs.declared.Announced.{Announced}
+use Rattle.machine.specs.declared.Announced.the-variants.{NoRequest, Asked}
+use Rattle.machine.specs.Effect.{usesEmpty, takesOut}
+use Rattle.state.specs.declared.State.{State}
+use Rattle.state.specs.Range.{every, headInRange, rowsInRange, inRange, threadInRange, nodeInRange, countsInRange}
+use Rattle.state.specs.Shape.{Shaped}
+use Rattle.state.proofs.Kept.{first-set, first-at, rows-stay, known-at}
+use Rattle.state.proofs.RangeFacts.{ThreadFits, thread-iff, points-iff, StateFits, state-fits}
+use Rattle.step.specs.Entry.{zeroThread, zeroNode, zeroSlot, servedBy, named, line, target, node, request, applied, effect, countsAfter, entered}
+use Rattle.step.specs.Step.{goesThrough}
+use Rattle.step.proofs.Numbers.{standsAt, Runs, runs}
+use Rattle.step.proofs.EachLine.{Leaves, leaves-at, target-at}
+
+-- an object in range stays so, whether or not a req is served
+module _ (kind : Kind) (capacity : ℕ) (ob : Object) (long : length (ob .items) ≡ 64)
+    (fits : heldInRange kind capacity (ob .held) ≡ true) where
+  object-stays : (serves : Bool) (req : Announced)
+      → heldInRange kind capacity (cond serves (servedBy kind capacity ob req) (answered Empty ob) .object .held) ≡ true
+  object-stays false req = fits
+  object-stays true NoRequest = fits
+  object-stays true (Asked request) = is-true _ (applies-plainly kind capacity ob request long .stays (rw fits tt))
+
+-- what the parts of a state's range come to where all hold but the threads and the counts
+together : {a b d e v : Bool} (u c z : Bool) → a ≡ true → b ≡ true → d ≡ true → e ≡ true → (not u && c) ≡ v
+    → (not u && (a && b && c && d && e && z)) ≡ (v && z)
+together u c z ea eb ed ee eo = rw (ea, eb, ed, ee, and-true c, and-true c, ← and-assoc, eo)
+
+module _ (s : State) (t : ThreadId) (shaped : Shaped s) (range : inRange s ≡ true) (below : t .0 < s .n) where
+  facts : StateFits s
+  facts = state-fits s range
+
+  room : s .n ≤ length (s .threads)
+  room = omega (arith, facts .small, shaped .threads)
+
+  -- the named thread's facts, at its line and at the line that it runs
+  now : ThreadFits (s .n) (s .h) (named s t) (named s t .line)
+  now =
+      thread-iff (s .n) (s .h) (named s t) .0
+      (first-at (threadInRange (s .n) (s .h)) (s .n) (s .threads) (t .0) (facts .threads) below room zeroThread)
+
+  -- the requests begun fit a row
+  pub begun-few : named s t .begun ≤ 16
+  begun-few = omega (arith, now .few, now .counted)
+
+  run : Runs (named s t .line) (ltb (named s t .begun) (named s t .count)) (line s t)
+  run = runs (named s t .line) (ltb (named s t .begun) (named s t .count)) (now .a-line)
+
+  standing : ThreadFits (s .n) (s .h) (named s t) (standsAt (line s t))
+  standing = subst (ThreadFits (s .n) (s .h) (named s t)) (run .stands) now
+
+  -- the node that the line points to exists
+  pub target-in-range : target s t .0 ≤ s .n
+  target-in-range = target-at (s .n) (s .h) (named s t) (line s t) (run .printed) standing
+
+  -- the request of a call that has begun stands in the thread's row
+  request-known : 0 < named s t .begun → knows (s .kind) (request s t) ≡ true
+  request-known b =
+      known-at (s .kind) (s .requests) (s .n) (s .threads) (t .0) below (facts .rows) room zeroThread (named s t .begun - 1) zeroSlot
+      (omega (arith, now .counted)) (omega (arith, facts .small, now .few, shaped .requests))
+
+  leaves : Leaves (s .n) (s .h) (s .kind) (named s t) (node s t) (line s t) (effect s t)
+  leaves =
+      leaves-at (s .n) (s .h) (s .kind) (named s t) (node s t) (s .tail) (request s t) (applied s t .answer)
+      (facts .small) (facts .tail)
+      (first-at (nodeInRange (s .kind) (s .n)) (s .n + 1) (s .nodes) (target s t .0) (facts .nodes)
+      (omega (arith, target-in-range)) (omega (arith, facts .small, shaped .nodes)) zeroNode)
+      now request-known (line s t) (run .printed) standing (λ e. ltb-true _ _ (run .begins e))
+
+  head-stays : headInRange (entered s t) ≡ true
+  head-stays =
+      and-eq-true-iff (within 1 (s .n) 16 && within 1 (s .h) 255) (heldInRange (s .kind) (s .capacity) (applied s t .object .held)) .1 (
+        facts .limits,
+        object-stays (s .kind) (s .capacity) (s .object) (shaped .items) (facts .held) (eqb (line s t) 16) (node s t .req),
+      )
+
+  -- the threads hold exactly if the named one does
+  threads-hold : (not (usesEmpty (node s t) (line s t)) && every (threadInRange (s .n) (s .h)) (take (s .n) (entered s t .threads)))
+      ≡ not (takesOut (named s t) (node s t) (s .h) (line s t))
+  threads-hold =
+      ap (λ (b : Bool). not (usesEmpty (node s t) (line s t)) && b)
+      (first-set (threadInRange (s .n) (s .h)) (s .n) (s .threads) (t .0) (facts .threads) below room (effect s t .thread))
+      ∙ leaves .thread
+
+  nodes-stay : every (nodeInRange (s .kind) (s .n)) (take (s .n + 1) (entered s t .nodes)) ≡ true
+  nodes-stay =
+      first-set (nodeInRange (s .kind) (s .n)) (s .n + 1) (s .nodes) (target s t .0) (facts .nodes)
+      (omega (arith, target-in-range)) (omega (arith, facts .small, shaped .nodes)) (effect s t .node)
+      ∙ leaves .node
+
+  rows-hold : rowsInRange (s .kind) (s .requests) 0 (take (s .n) (entered s t .threads)) ≡ true
+  rows-hold =
+      rows-stay (s .kind) (s .requests) (s .n) (s .threads) (t .0) below (effect s t .thread) zeroThread (leaves .count)
+      ∙ facts .rows
+
+  -- so what `goesThrough` asks of the whole state after the entry is asked of the line and the counts alone
+  pub goes-through-exactly : goesThrough s t
+      ≡ (not (takesOut (named s t) (node s t) (s .h) (line s t)) && countsInRange (countsAfter s t))
+  goes-through-exactly =
+      together (usesEmpty (node s t) (line s t)) _ _ head-stays (points-iff (s .n) false (effect s t .tail) .1 (leaves .tail)) nodes-stay
+      rows-hold threads-hold

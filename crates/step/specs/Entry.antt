@@ -1,0 +1,138 @@
+-- What one schedule entry does to a state: the thread that it names executes one line. Document 01, 'One entry, one line'.
+use Prim.Native.Nat.{ℕ, _+_, _-_, _*_}
+use mathlib.Core.Bool.{Bool, false, cond, _&&_}
+use mathlib.Core.List.{List}
+use lib.ListN.{getD, set}
+use lib.Dec.{eqb}
+use Rattle.object.specs.declared.Kind.{Kind}
+use Rattle.object.specs.declared.Request.{Request}
+use Rattle.object.specs.declared.Request.the-variants.{Put}
+use Rattle.object.specs.declared.Answer.the-variants.{Empty}
+use Rattle.object.specs.declared.Object.{Object}
+use Rattle.object.specs.declared.Applied.{Applied}
+use Rattle.object.specs.Apply.{answered, refusedWith, applyOf}
+use Rattle.machine.specs.declared.ThreadId.{ThreadId}
+use Rattle.machine.specs.declared.NodeId.{NodeId}
+use Rattle.machine.specs.declared.Announced.{Announced}
+use Rattle.machine.specs.declared.Announced.the-variants.{NoRequest, Asked}
+use Rattle.machine.specs.declared.RetVal.the-variants.{NoAnswer}
+use Rattle.machine.specs.declared.Node.{Node}
+use Rattle.machine.specs.declared.Thread.{Thread}
+use Rattle.machine.specs.declared.Row.{Row}
+use Rattle.machine.specs.declared.Effect.{Effect}
+use Rattle.machine.specs.Lines.{Access, lineOf, lineRun, rowOf, pointed, accessesOf}
+use Rattle.machine.specs.Effect.{ran}
+use Rattle.copies.specs.Remote.{Referred, referred}
+use Rattle.state.specs.declared.Slot.{Slot}
+use Rattle.state.specs.declared.Counts.{Counts}
+use Rattle.state.specs.declared.State.{State}
+
+-- what a read past the end of an array gives, which no state in range meets; not the start
+abbrev pub zeroNodeId : NodeId
+zeroNodeId = record { 0 = 0 }
+
+abbrev pub zeroThread : Thread
+zeroThread = record {
+  count = 0;
+  begun = 0;
+  line = 0;
+  own = zeroNodeId;
+  cur = zeroNodeId;
+  tmp = zeroNodeId;
+  tmpnext = zeroNodeId;
+  served = 0;
+}
+
+abbrev pub zeroNode : Node
+zeroNode = record { req = NoRequest; ret = NoAnswer; wait = false; completed = false; next = zeroNodeId }
+
+abbrev pub zeroSlot : Slot
+zeroSlot = record { request = Put 0 }
+
+-- the object's answer to a node's req, and the object after it; the use of an empty req is 14
+abbrev pub servedBy : Kind → ℕ → Object → Announced → Applied
+servedBy kind capacity ob NoRequest = refusedWith 14 ob
+servedBy kind capacity ob (Asked request) = applyOf kind capacity ob request
+
+-- line 16 alone applies; in a state in range its req is known to the object, or empty, which `usesEmpty` judges
+abbrev pub appliedAt : ℕ → Kind → ℕ → Object → Announced → Applied
+appliedAt line kind capacity ob req = cond (eqb line 16) (servedBy kind capacity ob req) (answered Empty ob)
+
+abbrev pub oneIf : Bool → ℕ
+oneIf test = cond test 1 0
+
+-- what an entry adds to the counts: a record by a Swap, a turn by line 12, a blank, a spin where line 9 stays, and its remote references
+abbrev pub moreOf : ℕ → Bool → ℕ → Counts
+moreOf line waits remote = record {
+  records = oneIf (eqb line 5);
+  turns = oneIf (eqb line 12);
+  blanks = oneIf (eqb line 0);
+  spins = oneIf (eqb line 9 && waits);
+  remote = remote;
+}
+
+abbrev pub plus : Counts → Counts → Counts
+plus c d = record {
+  records = c .records + d .records;
+  turns = c .turns + d .turns;
+  blanks = c .blanks + d .blanks;
+  spins = c .spins + d .spins;
+  remote = c .remote + d .remote;
+}
+
+module _ (s : State) (t : ThreadId) where
+  -- the thread that the entry names
+  abbrev pub named : Thread
+  named = getD (s .threads) (t .0) zeroThread
+
+  -- the line that it runs, 0 for a blank
+  abbrev pub line : ℕ
+  line = lineRun named
+
+  abbrev pub row : Row
+  row = rowOf (lineOf line)
+
+  -- the node that the line points to
+  abbrev pub target : NodeId
+  target = pointed (row .node) named
+
+  abbrev pub node : Node
+  node = getD (s .nodes) (target .0) zeroNode
+
+  -- the request of the thread's call, the last begun of its row
+  abbrev pub request : Request
+  request = getD (s .requests) (16 * t .0 + (named .begun - 1)) zeroSlot .request
+
+  abbrev pub applied : Applied
+  applied = appliedAt line (s .kind) (s .capacity) (s .object) (node .req)
+
+  -- what the line does, by Algorithm 1
+  abbrev pub effect : Effect
+  effect = ran named node (s .tail) (s .h) request (applied .answer) (lineOf line)
+
+  -- the accesses that it makes, in order
+  abbrev pub accesses : List Access
+  accesses = accessesOf row target
+
+  -- and which of them are remote
+  abbrev pub references : Referred
+  references = referred (s .n) (t .0) (s .copies) accesses
+
+  abbrev pub countsAfter : Counts
+  countsAfter = plus (s .counts) (moreOf line (node .wait) (references .remote))
+
+  -- the state after the entry
+  abbrev pub entered : State
+  entered = record {
+    n = s .n;
+    h = s .h;
+    kind = s .kind;
+    capacity = s .capacity;
+    tail = effect .tail;
+    threads = set (s .threads) (t .0) (effect .thread);
+    nodes = set (s .nodes) (target .0) (effect .node);
+    requests = s .requests;
+    copies = references .copies;
+    object = applied .object;
+    counts = countsAfter;
+  }

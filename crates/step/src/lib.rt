@@ -1,0 +1,185 @@
+// The single step: one entry of a schedule on a state, by value.
+ghost use Prim.Native.Nat.{_+_, _-_, _*_, _^_, _<_, _≤_};
+ghost use mathlib.Core.Path.{_≡_};
+ghost use mathlib.Core.Bool.{true};
+ghost use lib.Dec.{ltb};
+ghost use Rattle.state.specs.Range.{inRange, countsInRange};
+ghost use Rattle.step.specs.Entry.{servedBy, appliedAt, oneIf, moreOf, plus};
+ghost use Rattle.step.specs.Step.{refused, outcomeOf, stepOf};
+use machine::Announced;
+use machine::NodeId;
+use machine::ThreadId;
+use object::Answer;
+use object::Applied;
+use object::Kind;
+use object::Object;
+use state::Counts;
+use state::State;
+
+// Refusal 0 with the state after the entry, or a refusal's number with the state as it was.
+pub struct Stepped {
+    pub refusal: u8,
+    pub state: State,
+}
+
+fn refused(number: u8, state: State) -> Stepped
+    ensures { λ r. ⌜ r ≡ refused number state ⌝ }
+{
+    Stepped {
+        refusal: number,
+        state,
+    }
+}
+
+// A node's req applied to the object.
+pub fn served_by(kind: Kind, capacity: u8, object: Object, req: Announced) -> Applied
+    ensures { λ r. ⌜ r ≡ servedBy kind capacity object req ⌝ }
+{
+    match req {
+        Announced::NoRequest => Applied {
+            refusal: 14,
+            answer: Answer::Empty,
+            object,
+        },
+        Announced::Asked(request) => object::apply(kind, capacity, object, request),
+    }
+}
+
+// Line 16 alone applies.
+fn applied_at(line: u8, kind: Kind, capacity: u8, object: Object, req: Announced) -> Applied
+    ensures { λ r. ⌜ r ≡ appliedAt line kind capacity object req ⌝ }
+{
+    if line == 16 {
+        return served_by(kind, capacity, object, req);
+    }
+    Applied {
+        refusal: 0,
+        answer: Answer::Empty,
+        object,
+    }
+}
+
+// The place of the request of a thread's call, the last begun of its row.
+fn request_place(thread: usize, begun: u8) -> usize
+    requires { ⌜ (thread < 16) × (begun ≤ 16) ⌝ }
+    ensures { λ r. ⌜ (r ≡ 16 * thread + (begun - 1)) × (r < 256) ⌝ }
+{
+    let first = 16 * thread;
+    if begun == 0 {
+        return first;
+    }
+    first + ((begun - 1) as usize)
+}
+
+fn one_if(test: bool) -> u32
+    ensures { λ r. ⌜ r ≡ oneIf test ⌝ }
+{
+    if test { 1 } else { 0 }
+}
+
+// What an entry adds to the counts.
+pub fn more_of(line: u8, waits: bool, remote: u8) -> Counts
+    ensures { λ r. ⌜ r ≡ moreOf line waits remote ⌝ }
+{
+    Counts {
+        records: one_if(line == 5),
+        turns: one_if(line == 12),
+        blanks: one_if(line == 0),
+        spins: one_if((line == 9) & waits),
+        remote: remote as u32,
+    }
+}
+
+fn fits(count: u32, more: u32) -> bool
+    ensures { λ r. ⌜ r ≡ ltb (count + more) (2 ^ 32) ⌝ }
+{
+    let sum = (count as u64) + (more as u64);
+    sum < 4294967296
+}
+
+fn counts_fit(counts: Counts, more: Counts) -> bool
+    ensures { λ r. ⌜ r ≡ countsInRange (plus counts more) ⌝ }
+{
+    let records = fits(counts.records, more.records);
+    let turns = fits(counts.turns, more.turns);
+    let blanks = fits(counts.blanks, more.blanks);
+    let spins = fits(counts.spins, more.spins);
+    let remote = fits(counts.remote, more.remote);
+    records & turns & blanks & spins & remote
+}
+
+fn plus(counts: Counts, more: Counts) -> Counts
+    requires { ⌜ countsInRange (plus counts more) ≡ true ⌝ }
+    ensures { λ r. ⌜ r ≡ plus counts more ⌝ }
+{
+    Counts {
+        records: counts.records + more.records,
+        turns: counts.turns + more.turns,
+        blanks: counts.blanks + more.blanks,
+        spins: counts.spins + more.spins,
+        remote: counts.remote + more.remote,
+    }
+}
+
+// The entry of a thread below n on a state in range.
+fn enter(state: State, thread: ThreadId) -> Stepped
+    requires { ⌜ (inRange state ≡ true) × (thread .0 < state .n) ⌝ }
+    ensures { λ r. ⌜ r ≡ outcomeOf state thread ⌝ }
+{
+    let t = thread.0 as usize;
+    let n = state.n;
+    let kind = state.kind;
+    let tail = state.tail;
+    let object = state.object;
+    let counts = state.counts;
+    let named = state.threads[t];
+    let line = machine::line_run(named);
+    let row = machine::row_of(line);
+    let pointer = row.node;
+    let target = machine::pointed(pointer, named);
+    let m = target.0 as usize;
+    let node = state.nodes[m];
+    let req = node.req;
+    let place = request_place(t, named.begun);
+    let slot = state.requests[place];
+    let request = slot.request;
+    let applied = applied_at(line, kind, state.capacity, object, req);
+    let answer = applied.answer;
+    let effect = machine::run_line(named, node, tail, state.h, request, answer);
+    let mut after = state;
+    let remote = copies::refer_all(&mut after.copies, row, target, thread, n);
+    let more = more_of(line, node.wait, remote);
+    if effect.refusal != 0 {
+        return refused(14, state);
+    }
+    if !counts_fit(counts, more) {
+        return refused(14, state);
+    }
+    let thread_after = effect.thread;
+    let node_after = effect.node;
+    let tail_after = effect.tail;
+    let object_after = applied.object;
+    let counts_after = plus(counts, more);
+    after.threads[t] = thread_after;
+    after.nodes[m] = node_after;
+    after.tail = tail_after;
+    after.object = object_after;
+    after.counts = counts_after;
+    Stepped {
+        refusal: 0,
+        state: after,
+    }
+}
+
+// One entry of a schedule: 14 for the state, then 11, then 14 for the outcome.
+pub fn step(state: State, thread: ThreadId) -> Stepped
+    ensures { λ r. ⌜ r ≡ stepOf state thread ⌝ }
+{
+    if !state::in_range(state) {
+        return refused(14, state);
+    }
+    if state.n <= thread.0 {
+        return refused(11, state);
+    }
+    enter(state, thread)
+}
