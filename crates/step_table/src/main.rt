@@ -1,0 +1,14 @@
+// Prints what a single step answers and changes: each line, each range of a state, each outcome out of range, and whole runs by steps. 0 is no refusal.
+mod lines;
+mod make;
+mod outcomes;
+mod ranges;
+mod runs;
+mod show;
+
+fn main() {
+    lines::run();
+    ranges::run();
+    outcomes::run();
+    runs::run();
+}
