@@ -4,6 +4,7 @@ mod make;
 mod outcomes;
 mod ranges;
 mod runs;
+mod script;
 mod show;
 
 fn main() {

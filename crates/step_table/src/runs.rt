@@ -1,155 +1,32 @@
 // Whole runs by steps, from document 01's start: its runs that touch a bound, and long walks of many threads.
-use crate::make;
-use crate::make::Byte;
-use crate::show::ran;
-use crate::show::steps;
-use crate::show::walk;
-use object::Kind;
-use object::Request;
-use state::State;
-
-fn counter(first: u32, second: u32, third: u32) -> State {
-    let s = make::start(Kind::Counter, 1, 1, 0);
-    let one = make::request(s, 0, Request::Add(first));
-    let two = make::request(one, 1, Request::Add(second));
-    make::set(
-        make::request(two, 2, Request::Add(third)),
-        Byte::Count,
-        0,
-        3,
-    )
-}
-
-fn counters() {
-    let s = make::set(counter(5, 7, 0), Byte::Count, 0, 2);
-    ran(b"64 bytes, 42 entries", s, steps(s, 0, 42));
-    ran(b"64 bytes, 4 entries", s, steps(s, 0, 4));
-    ran(b"64 bytes, 5 entries", s, steps(s, 0, 5));
-    ran(b"64 bytes, 21 entries", s, steps(s, 0, 21));
-    ran(b"64 bytes, 43 entries", s, steps(s, 0, 43));
-    let t = counter(5, 7, 9);
-    ran(b"a third add, 42 entries", t, steps(t, 0, 42));
-    ran(b"a third add, 63 entries", t, steps(t, 0, 63));
-    let w = counter(4294967295, 1, 0);
-    ran(b"add 4294967295, 1, 0, 21 entries", w, steps(w, 0, 21));
-    ran(b"add 4294967295, 1, 0, 42 entries", w, steps(w, 0, 42));
-    ran(b"add 4294967295, 1, 0, 63 entries", w, steps(w, 0, 63));
-}
-
-fn queue(h: u8) -> State {
-    let s = make::start(Kind::Queue, 2, h, 4);
-    let puts = make::set(make::request(s, 0, Request::Put(7)), Byte::Count, 0, 1);
-    make::set(make::request(puts, 16, Request::Take), Byte::Count, 1, 1)
-}
-
-fn lists() {
-    let s = queue(8);
-    let a = steps(steps(s, 0, 8), 1, 9);
-    ran(b"queue, 0 eight times, 1 nine times", s, a);
-    let b = steps(a, 0, 20);
-    ran(b"queue, then 0 twenty times", a, b);
-    ran(b"queue, then 1 three times", b, steps(b, 1, 3));
-    let t = queue(1);
-    let c = steps(steps(t, 0, 8), 1, 9);
-    ran(b"queue, h 1, 0 eight times, 1 nine times", t, c);
-    let d = steps(c, 0, 13);
-    ran(b"queue, h 1, then 0 thirteen times", c, d);
-    ran(b"queue, h 1, then 1 thirteen times", d, steps(d, 1, 13));
-    let one = make::start(Kind::Queue, 1, 1, 1);
-    let put = make::request(make::request(one, 0, Request::Put(3)), 1, Request::Put(4));
-    let puts = make::set(put, Byte::Count, 0, 2);
-    ran(b"queue of capacity 1, two puts", puts, steps(puts, 0, 42));
-    let stack = make::set(make::start(Kind::Stack, 1, 1, 1), Byte::Count, 0, 1);
-    ran(b"stack, one take", stack, steps(stack, 0, 21));
-}
-
-// Threads 0, 1 and 2 of three, or of sixteen, with four requests that put and take in turn.
-fn mixed(kind: Kind, n: u8, h: u8) -> State {
-    let s = make::start(kind, n, h, 3);
-    let a = make::request(make::request(s, 0, Request::Put(100)), 2, Request::Put(102));
-    let b = make::request(
-        make::request(a, 16, Request::Put(110)),
-        17,
-        Request::Put(111),
-    );
-    let c = make::request(
-        make::request(b, 33, Request::Put(121)),
-        35,
-        Request::Put(123),
-    );
-    make::set(
-        make::set(make::set(c, Byte::Count, 0, 4), Byte::Count, 1, 4),
-        Byte::Count,
-        2,
-        4,
-    )
-}
-
-fn walks() {
-    walk(b"walk, queue of 3", mixed(Kind::Queue, 3, 2), 0, true, 150);
-    walk(
-        b"walk, queue of 3, long",
-        mixed(Kind::Queue, 3, 2),
-        0,
-        true,
-        600,
-    );
-    walk(b"walk, stack of 3", mixed(Kind::Stack, 3, 3), 7, true, 200);
-    walk(
-        b"walk, stack of 3, long",
-        mixed(Kind::Stack, 3, 3),
-        7,
-        true,
-        600,
-    );
-    walk(
-        b"walk, queue of 16",
-        mixed(Kind::Queue, 16, 255),
-        9,
-        false,
-        900,
-    );
-    walk(
-        b"walk, queue of 16 with all requests",
-        make::full(Kind::Queue, 3, 64),
-        4,
-        false,
-        1500,
-    );
-    walk(
-        b"walk, queue of 16 with all requests, long",
-        make::full(Kind::Queue, 3, 64),
-        4,
-        false,
-        6000,
-    );
-    walk(
-        b"walk, stack of 16 with all requests",
-        make::full(Kind::Stack, 200, 40),
-        30,
-        false,
-        3000,
-    );
-    walk(
-        b"walk, counter of 16 with all requests",
-        make::full(Kind::Counter, 20, 0),
-        50,
-        false,
-        4000,
-    );
-    walk(b"walk, queue in use", make::used(Kind::Queue), 3, true, 60);
-    walk(b"walk, stack in use", make::used(Kind::Stack), 5, true, 90);
-    walk(
-        b"walk, counter in use",
-        make::used(Kind::Counter),
-        11,
-        true,
-        120,
-    );
-}
+use crate::script::table;
 
 pub(crate) fn run() {
-    counters();
-    lists();
-    walks();
+    // Runs of one thread and of two, then many steps of three threads that put and take in turn, and of sixteen.
+    table(
+        0,
+        b"64 bytes, 42 entries: C A0=5 A1=7 r0=2 |!0=42.
+64 bytes, 4 entries: C A0=5 A1=7 r0=2 |!0=4.
+64 bytes, 5 entries: C A0=5 A1=7 r0=2 |!0=5.
+64 bytes, 21 entries: C A0=5 A1=7 r0=2 |!0=21.
+64 bytes, 43 entries: C A0=5 A1=7 r0=2 |!0=43.
+a third add, 42 entries: C A0=5 A1=7 A2=9 r0=3 |!0=42.
+a third add, 63 entries: C A0=5 A1=7 A2=9 r0=3 |!0=63.
+add 4294967295, 1, 0, 21 entries: C A0=255 A1=1 A2=0 r0=3 |!0=21.
+add 4294967295, 1, 0, 42 entries: C A0=255 A1=1 A2=0 r0=3 |!0=42.
+add 4294967295, 1, 0, 63 entries: C A0=255 A1=1 A2=0 r0=3 |!0=63.
+queue, 0 eight times, 1 nine times: Q n2 h8 m4 P0=7 r0=1 G16=0 r1=1 |!0=8 !1=9.
+queue, then 0 twenty times: Q n2 h8 m4 P0=7 r0=1 G16=0 r1=1 !0=8 !1=9 |!0=20.
+queue, then 1 three times: Q n2 h8 m4 P0=7 r0=1 G16=0 r1=1 !0=8 !1=9 !0=20 |!1=3.
+queue, h 1, 0 eight times, 1 nine times: Q n2 h1 m4 P0=7 r0=1 G16=0 r1=1 |!0=8 !1=9.
+queue, h 1, then 0 thirteen times: Q n2 h1 m4 P0=7 r0=1 G16=0 r1=1 !0=8 !1=9 |!0=13.
+queue, h 1, then 1 thirteen times: Q n2 h1 m4 P0=7 r0=1 G16=0 r1=1 !0=8 !1=9 !0=13 |!1=13.
+queue of capacity 1, two puts: Q P0=3 P1=4 r0=2 |!0=42.
+stack, one take: S G0=0 r0=1 |!0=21.
+walk, queue of 3, long: Q n3 h2 m3 P0=100 G1=0 P2=102 G3=0 P16=110 P17=111 G18=0 G19=0 G32=0 P33=121 G34=0 P35=123 r0=4 r1=4 r2=4 |?0=6.
+walk, stack of 3, long: S n3 h3 m3 P0=100 G1=0 P2=102 G3=0 P16=110 P17=111 G18=0 G19=0 G32=0 P33=121 G34=0 P35=123 r0=4 r1=4 r2=4 |?7=6.
+walk, queue of 16 with all requests, long: X h3 m64 |?4=60.
+walk, stack of 16 with all requests: Y h200 m40 |?30=30.
+walk, counter of 16 with all requests: Z h20 |?50=40.",
+    );
 }

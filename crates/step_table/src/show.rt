@@ -1,15 +1,11 @@
 // A step's refusal, and what differs between the state handed in and the state handed back, over all places of both.
-use crate::make;
-use crate::make::Byte;
-use crate::make::Number;
+use crate::make::Word;
 use libc::STDOUT_FILENO;
 use machine::Announced;
 use machine::Node;
 use machine::RetVal;
 use machine::Thread;
 use machine::ThreadId;
-use object::Answer;
-use object::Kind;
 use object::Object;
 use object::Request;
 use state::Counts;
@@ -34,10 +30,6 @@ fn wide16(x: u16) -> u64 {
 
 fn wide32(x: u32) -> u64 {
     x as u64
-}
-
-pub(crate) fn wide(x: u8) -> usize {
-    x as usize
 }
 
 fn bit(x: bool) -> u64 {
@@ -68,100 +60,57 @@ fn element(whole: &[u8], at: usize, part: &[u8], before: u64, after: u64) {
     }
 }
 
-// A request or an answer as a letter and a value.
-struct Word {
-    letter: u8,
-    value: u32,
+// A request or an answer: a number for its name, then 32 bits for its value.
+fn said(mark: u8, value: u32) -> u64 {
+    ((mark as u64) << 32) | (value as u64)
 }
 
-fn request_word(request: Request) -> Word {
-    match request {
-        Request::Put(value) => Word {
-            letter: b'p',
-            value,
-        },
-        Request::Take => Word {
-            letter: b't',
-            value: 0,
-        },
-        Request::Add(value) => Word {
-            letter: b'a',
-            value,
-        },
-    }
+fn request_said(request: Request) -> u64 {
+    said(
+        object::request_code(request),
+        object::request_value(request),
+    )
 }
 
-fn req_word(req: Announced) -> Word {
+fn req_said(req: Announced) -> u64 {
     match req {
-        Announced::NoRequest => Word {
-            letter: b'n',
-            value: 0,
-        },
-        Announced::Asked(request) => request_word(request),
+        Announced::NoRequest => said(3, 0),
+        Announced::Asked(request) => request_said(request),
     }
 }
 
-fn answer_word(answer: Answer) -> Word {
-    match answer {
-        Answer::Done => Word {
-            letter: b'd',
-            value: 0,
-        },
-        Answer::Value(value) => Word {
-            letter: b'v',
-            value,
-        },
-        Answer::Empty => Word {
-            letter: b'e',
-            value: 0,
-        },
-        Answer::Full => Word {
-            letter: b'f',
-            value: 0,
-        },
-    }
-}
-
-fn ret_word(ret: RetVal) -> Word {
+fn ret_said(ret: RetVal) -> u64 {
     match ret {
-        RetVal::NoAnswer => Word {
-            letter: b'n',
-            value: 0,
-        },
-        RetVal::Answered(answer) => answer_word(answer),
+        RetVal::NoAnswer => said(3, 0),
+        RetVal::Answered(answer) => said(
+            object::answer_mark(answer) | 4,
+            object::answer_value(answer),
+        ),
     }
 }
 
-fn spelled(w: Word) {
-    let letter = w.letter;
-    match letter {
-        b'p' => text(b"put:"),
-        b't' => text(b"take"),
-        b'a' => text(b"add:"),
-        b'd' => text(b"done"),
-        b'v' => text(b"value:"),
-        b'e' => text(b"empty"),
-        b'f' => text(b"full"),
+fn spelled(said: u64) {
+    let mark = said >> 32;
+    match mark {
+        0 => text(b"put:"),
+        1 => text(b"take"),
+        2 => text(b"add:"),
+        4 => text(b"done"),
+        5 => text(b"value:"),
+        6 => text(b"empty"),
+        7 => text(b"full"),
         _ => text(b"none"),
     }
-    match letter {
-        b'p' | b'a' | b'v' => number(wide32(w.value)),
+    match mark {
+        0 | 2 | 5 => number(said & 0xFFFFFFFF),
         _ => {}
     }
 }
 
-fn words(whole: &[u8], at: usize, part: &[u8], before: Word, after: Word) {
-    if (before.letter != after.letter) | (before.value != after.value) {
+fn words(whole: &[u8], at: usize, part: &[u8], before: u64, after: u64) {
+    if before != after {
         place(whole, at, part);
         spelled(after);
-    }
-}
-
-fn kind_number(kind: Kind) -> u64 {
-    match kind {
-        Kind::Queue => 0,
-        Kind::Stack => 1,
-        Kind::Counter => 2,
     }
 }
 
@@ -170,90 +119,93 @@ fn head(a: State, b: State) {
     single(b"h", wide8(a.h), wide8(b.h));
     let was = a.kind;
     let is = b.kind;
-    single(b"kind", kind_number(was), kind_number(is));
+    let kind = object::kind_number(is);
+    single(b"kind", wide8(object::kind_number(was)), wide8(kind));
     single(b"capacity", wide8(a.capacity), wide8(b.capacity));
     single(b"tail", wide8(a.tail.0), wide8(b.tail.0));
 }
 
+fn in_thread(at: usize, part: &[u8], before: u8, after: u8) {
+    element(b"t", at, part, wide8(before), wide8(after));
+}
+
 fn thread(at: usize, a: Thread, b: Thread) {
-    element(b"t", at, b".count", wide8(a.count), wide8(b.count));
-    element(b"t", at, b".begun", wide8(a.begun), wide8(b.begun));
-    element(b"t", at, b".line", wide8(a.line), wide8(b.line));
-    element(b"t", at, b".own", wide8(a.own.0), wide8(b.own.0));
-    element(b"t", at, b".cur", wide8(a.cur.0), wide8(b.cur.0));
-    element(b"t", at, b".tmp", wide8(a.tmp.0), wide8(b.tmp.0));
-    element(
-        b"t",
-        at,
-        b".tmpnext",
-        wide8(a.tmpnext.0),
-        wide8(b.tmpnext.0),
-    );
-    element(b"t", at, b".served", wide8(a.served), wide8(b.served));
+    in_thread(at, b".count", a.count, b.count);
+    in_thread(at, b".begun", a.begun, b.begun);
+    in_thread(at, b".line", a.line, b.line);
+    in_thread(at, b".own", a.own.0, b.own.0);
+    in_thread(at, b".cur", a.cur.0, b.cur.0);
+    in_thread(at, b".tmp", a.tmp.0, b.tmp.0);
+    in_thread(at, b".tmpnext", a.tmpnext.0, b.tmpnext.0);
+    in_thread(at, b".served", a.served, b.served);
+}
+
+fn flag(at: usize, part: &[u8], before: bool, after: bool) {
+    element(b"node", at, part, bit(before), bit(after));
 }
 
 fn node(at: usize, a: Node, b: Node) {
     let was = a.req;
     let is = b.req;
-    words(b"node", at, b".req", req_word(was), req_word(is));
+    words(b"node", at, b".req", req_said(was), req_said(is));
     let had = a.ret;
     let has = b.ret;
-    words(b"node", at, b".ret", ret_word(had), ret_word(has));
-    element(b"node", at, b".wait", bit(a.wait), bit(b.wait));
-    element(
-        b"node",
-        at,
-        b".completed",
-        bit(a.completed),
-        bit(b.completed),
-    );
+    words(b"node", at, b".ret", ret_said(had), ret_said(has));
+    flag(at, b".wait", a.wait, b.wait);
+    flag(at, b".completed", a.completed, b.completed);
     element(b"node", at, b".next", wide8(a.next.0), wide8(b.next.0));
 }
 
 fn slot(at: usize, a: Slot, b: Slot) {
     let was = a.request;
     let is = b.request;
-    words(b"request", at, b"", request_word(was), request_word(is));
+    words(b"request", at, b"", request_said(was), request_said(is));
 }
 
-fn threads(a: [Thread; 16], b: [Thread; 16]) {
+fn threads(a: State, b: State) {
     let mut i = 0;
     while i < 16 {
-        thread(i, a[i], b[i]);
+        thread(i, a.threads[i], b.threads[i]);
         i += 1;
     }
 }
 
-fn nodes(a: [Node; 17], b: [Node; 17]) {
+fn nodes(a: State, b: State) {
     let mut i = 0;
     while i < 17 {
-        node(i, a[i], b[i]);
+        node(i, a.nodes[i], b.nodes[i]);
         i += 1;
     }
 }
 
-fn requests(a: [Slot; 256], b: [Slot; 256]) {
+fn requests(a: State, b: State) {
     let mut i = 0;
     while i < 256 {
-        slot(i, a[i], b[i]);
+        slot(i, a.requests[i], b.requests[i]);
         i += 1;
     }
 }
 
-fn copies(a: [u16; 86], b: [u16; 86]) {
+fn copies(a: State, b: State) {
     let mut i = 0;
     while i < 86 {
-        element(b"copies", i, b"", wide16(a[i]), wide16(b[i]));
+        element(b"copies", i, b"", wide16(a.copies[i]), wide16(b.copies[i]));
         i += 1;
     }
 }
 
-fn items(a: [u32; 64], b: [u32; 64]) {
+fn items(a: Object, b: Object) {
     let mut i = 0;
     while i < 64 {
-        element(b"item", i, b"", wide32(a[i]), wide32(b[i]));
+        element(b"item", i, b"", wide32(a.items[i]), wide32(b.items[i]));
         i += 1;
     }
+}
+
+fn object(a: Object, b: Object) {
+    items(a, b);
+    single(b"held", wide8(a.held), wide8(b.held));
+    single(b"sum", wide32(a.sum), wide32(b.sum));
 }
 
 fn counts(a: Counts, b: Counts) {
@@ -264,28 +216,12 @@ fn counts(a: Counts, b: Counts) {
     single(b"remote", wide32(a.remote), wide32(b.remote));
 }
 
-fn object(a: Object, b: Object) {
-    let was = a.items;
-    let is = b.items;
-    items(was, is);
-    single(b"held", wide8(a.held), wide8(b.held));
-    single(b"sum", wide32(a.sum), wide32(b.sum));
-}
-
 fn differences(a: State, b: State) {
     head(a, b);
-    let threads_before = a.threads;
-    let threads_after = b.threads;
-    threads(threads_before, threads_after);
-    let nodes_before = a.nodes;
-    let nodes_after = b.nodes;
-    nodes(nodes_before, nodes_after);
-    let requests_before = a.requests;
-    let requests_after = b.requests;
-    requests(requests_before, requests_after);
-    let copies_before = a.copies;
-    let copies_after = b.copies;
-    copies(copies_before, copies_after);
+    threads(a, b);
+    nodes(a, b);
+    requests(a, b);
+    copies(a, b);
     let object_before = a.object;
     let object_after = b.object;
     object(object_before, object_after);
@@ -303,88 +239,58 @@ fn stepped(state: State, entry: u8) {
     text(b"\n");
 }
 
-pub(crate) fn case(name: &[u8], state: State, entry: u8) {
-    text(name);
-    stepped(state, entry);
-}
-
-// A case whose name has a number.
-pub(crate) fn numbered(name: &[u8], at: u8, state: State, entry: u8) {
-    text(name);
-    text(b" ");
-    number(wide8(at));
-    stepped(state, entry);
-}
-
-fn part(name: &[u8], field: &[u8], value: u8, state: State, entry: u8) {
-    text(name);
-    text(b", ");
-    numbered(field, value, state, entry);
-}
-
-// A byte of the state takes each of some values.
-pub(crate) fn sweep(
-    name: &[u8],
-    field: &[u8],
-    state: State,
-    byte: Byte,
-    at: usize,
-    entry: u8,
-    values: &[u8],
-) {
-    let mut i = 0;
-    while i < values.len() {
-        let value = values[i];
-        i += 1;
-        part(name, field, value, make::set(state, byte, at, value), entry);
+// The name of the field that a case is about.
+fn field_name(field: u8) {
+    match field {
+        b'n' => text(b", n"),
+        b'h' => text(b", h"),
+        b'm' => text(b", capacity"),
+        b't' => text(b", tail"),
+        b'o' => text(b", held"),
+        b'r' => text(b", count"),
+        b'b' => text(b", begun"),
+        b'l' => text(b", line"),
+        b'i' => text(b", own"),
+        b'u' => text(b", cur"),
+        b'j' => text(b", tmp"),
+        b'x' => text(b", tmpnext"),
+        b'v' => text(b", served"),
+        b'f' => text(b", next"),
+        b'z' => text(b", copies"),
+        b'@' => text(b", entry"),
+        b'R' => text(b", records"),
+        b'T' => text(b", turns"),
+        b'B' => text(b", blanks"),
+        b'L' => text(b", spins"),
+        b'M' => text(b", remote"),
+        b'U' => text(b", remote but one"),
+        _ => {}
     }
 }
 
-fn limit(name: &[u8], which: &[u8], state: State, entry: u8) {
-    text(name);
-    text(b", ");
-    text(which);
-    stepped(state, entry);
+fn numbered(value: u8) {
+    text(b" ");
+    number(wide8(value));
 }
 
-// Each count at the greatest number of 32 bits, and the remote count one below it.
-pub(crate) fn limits(name: &[u8], s: State, entry: u8) {
-    limit(
-        name,
-        b"records",
-        make::count(s, Number::Records, 4294967295),
-        entry,
-    );
-    limit(
-        name,
-        b"turns",
-        make::count(s, Number::Turns, 4294967295),
-        entry,
-    );
-    limit(
-        name,
-        b"blanks",
-        make::count(s, Number::Blanks, 4294967295),
-        entry,
-    );
-    limit(
-        name,
-        b"spins",
-        make::count(s, Number::Spins, 4294967295),
-        entry,
-    );
-    limit(
-        name,
-        b"remote",
-        make::count(s, Number::Remote, 4294967295),
-        entry,
-    );
-    limit(
-        name,
-        b"remote but one",
-        make::count(s, Number::Remote, 4294967294),
-        entry,
-    );
+fn swept(word: Word) {
+    let field = word.field;
+    field_name(field);
+    match field {
+        b'R' | b'T' | b'B' | b'L' | b'M' | b'U' => {}
+        _ => numbered(word.value),
+    }
+}
+
+// A case whose name ends with a field and what it is set to, with where a change is, or with neither.
+pub(crate) fn case(name: &[u8], byte: u8, word: Word, state: State, entry: u8) {
+    text(name);
+    match byte {
+        b',' => swept(word),
+        b';' => numbered(word.at),
+        _ => {}
+    }
+    stepped(state, entry);
 }
 
 // A thread's steps, several in a row; a refusal is printed.
@@ -394,7 +300,7 @@ pub(crate) fn steps(state: State, entry: u8, times: u8) -> State {
     while i < times {
         let result = step::step(s, ThreadId(entry));
         if result.refusal != 0 {
-            text(b"refused ");
+            text(b" refused");
         }
         let after = result.state;
         s = after;
@@ -403,20 +309,12 @@ pub(crate) fn steps(state: State, entry: u8, times: u8) -> State {
     s
 }
 
-// What a run by steps changed in all.
-pub(crate) fn ran(name: &[u8], before: State, after: State) {
-    text(name);
-    text(b":");
-    differences(before, after);
-    text(b"\n");
+fn entry_of(x: u8, n: u8) -> u8 {
+    if n < 4 { x / 64 } else { x / 16 }
 }
 
-fn entry_of(x: u8, few: bool) -> u8 {
-    if few { x / 64 } else { x / 16 }
-}
-
-// Many steps of 4 or of 16 threads, by sums of the last two numbers; how many were refused, and what changed in all.
-pub(crate) fn walk(name: &[u8], state: State, seed: u8, few: bool, times: usize) {
+// Many steps of few or of sixteen threads, by sums of the last two numbers; how many were refused is printed.
+pub(crate) fn walk(state: State, seed: u8, times: usize) -> State {
     let mut s = state;
     let mut refused = 0;
     let mut x = seed;
@@ -426,7 +324,7 @@ pub(crate) fn walk(name: &[u8], state: State, seed: u8, few: bool, times: usize)
         let sum = std::num::wrapping_add_u8(std::num::wrapping_add_u8(x, y), 1);
         x = y;
         y = sum;
-        let result = step::step(s, ThreadId(entry_of(sum, few)));
+        let result = step::step(s, ThreadId(entry_of(sum, state.n)));
         if result.refusal != 0 {
             refused = std::num::wrapping_add_u64(refused, 1);
         }
@@ -434,9 +332,18 @@ pub(crate) fn walk(name: &[u8], state: State, seed: u8, few: bool, times: usize)
         s = after;
         i += 1;
     }
-    text(name);
-    text(b": refused=");
+    text(b" refused=");
     number(refused);
-    differences(state, s);
+    s
+}
+
+pub(crate) fn run_name(name: &[u8]) {
+    text(name);
+    text(b":");
+}
+
+// What a run by steps changed in all.
+pub(crate) fn ran(before: State, after: State) {
+    differences(before, after);
     text(b"\n");
 }

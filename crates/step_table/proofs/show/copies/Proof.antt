@@ -22,8 +22,8 @@ slice-aggregate-element-2 c = search needs
 mul-wide16 : tie.Need-mul-wide16 Inv-loop μ-loop
 mul-wide16 c = search needs
 
-array-read-wide16 : tie.Need-array-read-wide16 Inv-loop μ-loop
-array-read-wide16 c = search needs
+element-copy-out-wide16 : tie.Need-element-copy-out-wide16 Inv-loop μ-loop
+element-copy-out-wide16 c = search needs
 
 wide16-requires : tie.Need-wide16-requires Inv-loop μ-loop
 wide16-requires c κs = search needs
@@ -31,8 +31,8 @@ wide16-requires c κs = search needs
 mul-wide16-2 : tie.Need-mul-wide16-2 Inv-loop μ-loop
 mul-wide16-2 c = search needs
 
-array-read-wide16-2 : tie.Need-array-read-wide16-2 Inv-loop μ-loop
-array-read-wide16-2 c = search needs
+element-copy-out-wide16-2 : tie.Need-element-copy-out-wide16-2 Inv-loop μ-loop
+element-copy-out-wide16-2 c = search needs
 
 wide16-requires-2 : tie.Need-wide16-requires-2 Inv-loop μ-loop
 wide16-requires-2 c κs = search needs
@@ -62,10 +62,10 @@ copies-spec =
     slice-aggregate-element
     slice-aggregate-element-2
     mul-wide16
-    array-read-wide16
+    element-copy-out-wide16
     wide16-requires
     mul-wide16-2
-    array-read-wide16-2
+    element-copy-out-wide16-2
     wide16-requires-2
     element-requires
     add-i

@@ -22,8 +22,8 @@ slice-aggregate-element-2 c = search needs
 mul-wide32 : tie.Need-mul-wide32 Inv-loop μ-loop
 mul-wide32 c = search needs
 
-array-read-wide32 : tie.Need-array-read-wide32 Inv-loop μ-loop
-array-read-wide32 c = search needs
+element-copy-out-wide32 : tie.Need-element-copy-out-wide32 Inv-loop μ-loop
+element-copy-out-wide32 c = search needs
 
 wide32-requires : tie.Need-wide32-requires Inv-loop μ-loop
 wide32-requires c κs = search needs
@@ -31,8 +31,8 @@ wide32-requires c κs = search needs
 mul-wide32-2 : tie.Need-mul-wide32-2 Inv-loop μ-loop
 mul-wide32-2 c = search needs
 
-array-read-wide32-2 : tie.Need-array-read-wide32-2 Inv-loop μ-loop
-array-read-wide32-2 c = search needs
+element-copy-out-wide32-2 : tie.Need-element-copy-out-wide32-2 Inv-loop μ-loop
+element-copy-out-wide32-2 c = search needs
 
 wide32-requires-2 : tie.Need-wide32-requires-2 Inv-loop μ-loop
 wide32-requires-2 c κs = search needs
@@ -62,10 +62,10 @@ items-spec =
     slice-aggregate-element
     slice-aggregate-element-2
     mul-wide32
-    array-read-wide32
+    element-copy-out-wide32
     wide32-requires
     mul-wide32-2
-    array-read-wide32-2
+    element-copy-out-wide32-2
     wide32-requires-2
     element-requires
     add-i

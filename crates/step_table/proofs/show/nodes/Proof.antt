@@ -16,14 +16,14 @@ loop-holds c = search needs
 mul-node : tie.Need-mul-node Inv-loop μ-loop
 mul-node c = search needs
 
-array-copy-out-node : tie.Need-array-copy-out-node Inv-loop μ-loop
-array-copy-out-node c = search needs
+element-copy-out-node : tie.Need-element-copy-out-node Inv-loop μ-loop
+element-copy-out-node c = search needs
 
 mul-node-2 : tie.Need-mul-node-2 Inv-loop μ-loop
 mul-node-2 c = search needs
 
-array-copy-out-node-2 : tie.Need-array-copy-out-node-2 Inv-loop μ-loop
-array-copy-out-node-2 c = search needs
+element-copy-out-node-2 : tie.Need-element-copy-out-node-2 Inv-loop μ-loop
+element-copy-out-node-2 c = search needs
 
 node-requires : tie.Need-node-requires Inv-loop μ-loop
 node-requires c κs = search needs
@@ -48,9 +48,9 @@ nodes-spec =
     μ-loop
     loop-holds
     mul-node
-    array-copy-out-node
+    element-copy-out-node
     mul-node-2
-    array-copy-out-node-2
+    element-copy-out-node-2
     node-requires
     add-i
     loop-less

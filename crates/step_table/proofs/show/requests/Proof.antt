@@ -16,14 +16,14 @@ loop-holds c = search needs
 mul-slot : tie.Need-mul-slot Inv-loop μ-loop
 mul-slot c = search needs
 
-array-copy-out-slot : tie.Need-array-copy-out-slot Inv-loop μ-loop
-array-copy-out-slot c = search needs
+element-copy-out-slot : tie.Need-element-copy-out-slot Inv-loop μ-loop
+element-copy-out-slot c = search needs
 
 mul-slot-2 : tie.Need-mul-slot-2 Inv-loop μ-loop
 mul-slot-2 c = search needs
 
-array-copy-out-slot-2 : tie.Need-array-copy-out-slot-2 Inv-loop μ-loop
-array-copy-out-slot-2 c = search needs
+element-copy-out-slot-2 : tie.Need-element-copy-out-slot-2 Inv-loop μ-loop
+element-copy-out-slot-2 c = search needs
 
 slot-requires : tie.Need-slot-requires Inv-loop μ-loop
 slot-requires c κs = search needs
@@ -48,9 +48,9 @@ requests-spec =
     μ-loop
     loop-holds
     mul-slot
-    array-copy-out-slot
+    element-copy-out-slot
     mul-slot-2
-    array-copy-out-slot-2
+    element-copy-out-slot-2
     slot-requires
     add-i
     loop-less

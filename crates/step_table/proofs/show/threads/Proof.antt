@@ -16,14 +16,14 @@ loop-holds c = search needs
 mul-thread : tie.Need-mul-thread Inv-loop μ-loop
 mul-thread c = search needs
 
-array-copy-out-thread : tie.Need-array-copy-out-thread Inv-loop μ-loop
-array-copy-out-thread c = search needs
+element-copy-out-thread : tie.Need-element-copy-out-thread Inv-loop μ-loop
+element-copy-out-thread c = search needs
 
 mul-thread-2 : tie.Need-mul-thread-2 Inv-loop μ-loop
 mul-thread-2 c = search needs
 
-array-copy-out-thread-2 : tie.Need-array-copy-out-thread-2 Inv-loop μ-loop
-array-copy-out-thread-2 c = search needs
+element-copy-out-thread-2 : tie.Need-element-copy-out-thread-2 Inv-loop μ-loop
+element-copy-out-thread-2 c = search needs
 
 thread-requires : tie.Need-thread-requires Inv-loop μ-loop
 thread-requires c κs = search needs
@@ -48,9 +48,9 @@ threads-spec =
     μ-loop
     loop-holds
     mul-thread
-    array-copy-out-thread
+    element-copy-out-thread
     mul-thread-2
-    array-copy-out-thread-2
+    element-copy-out-thread-2
     thread-requires
     add-i
     loop-less

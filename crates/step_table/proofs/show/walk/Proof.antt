@@ -5,10 +5,10 @@ use Rattle.step_table.proofs.show.walk.Statement.{statement}
 use Rattle.step_table.proofs.show.walk.Tie as tie
 
 abbrev Inv-loop : tie.InvT-loop
-Inv-loop name state seed few times s₀ refused₀ x₀ y₀ i₀ t14 t15 s refused x y i = i ≤ times
+Inv-loop state seed times s₀ refused₀ x₀ y₀ i₀ t12 s refused x y i = i ≤ times
 
 abbrev μ-loop : tie.MeasureT-loop
-μ-loop name state seed few times s₀ refused₀ x₀ y₀ i₀ t14 t15 s refused x y i = times - i
+μ-loop state seed times s₀ refused₀ x₀ y₀ i₀ t12 s refused x y i = times - i
 
 loop-holds : tie.Need-loop-holds Inv-loop μ-loop
 loop-holds c = search needs
@@ -37,26 +37,14 @@ loop-less c = search needs
 loop-again : tie.Need-loop-again Inv-loop μ-loop
 loop-again c = search needs
 
-text-requires : tie.Need-text-requires Inv-loop μ-loop
-text-requires c κs = search needs
-
 slice-aggregate-text : tie.Need-slice-aggregate-text Inv-loop μ-loop
 slice-aggregate-text c = search needs
 
-text-requires-2 : tie.Need-text-requires-2 Inv-loop μ-loop
-text-requires-2 c κs = search needs
+text-requires : tie.Need-text-requires Inv-loop μ-loop
+text-requires c κs = search needs
 
 number-requires : tie.Need-number-requires Inv-loop μ-loop
 number-requires c κs = search needs
-
-differences-requires : tie.Need-differences-requires Inv-loop μ-loop
-differences-requires c κs = search needs
-
-slice-aggregate-text-2 : tie.Need-slice-aggregate-text-2 Inv-loop μ-loop
-slice-aggregate-text-2 c = search needs
-
-text-requires-3 : tie.Need-text-requires-3 Inv-loop μ-loop
-text-requires-3 c κs = search needs
 
 returns : tie.Need-returns Inv-loop μ-loop
 returns c = search needs
@@ -76,11 +64,7 @@ walk-spec =
     add-i
     loop-less
     loop-again
-    text-requires
     slice-aggregate-text
-    text-requires-2
+    text-requires
     number-requires
-    differences-requires
-    slice-aggregate-text-2
-    text-requires-3
     returns)
