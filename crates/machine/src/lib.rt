@@ -1,7 +1,6 @@
 // Threads, nodes and Tail of CC-Synch, the table of its printed lines, and what one line does: Algorithm 1 of source 004.
 ghost use mathlib.Core.Path.{_≡_};
-ghost use mathlib.Core.Bool.{false, cond, not, _&&_, _||_};
-ghost use lib.Dec.{leb, ltb, eqb};
+ghost use mathlib.Core.Bool.{false, cond};
 ghost use Rattle.machine.specs.Lines.{lineOf, lineRun, silent, rowOf, pointed};
 ghost use Rattle.machine.specs.Effect.{null, isNull, isEmptyReq, isEmptyRet, withReq, withRet, usesEmpty, takesOut, ran, effectOf};
 use object::Answer;

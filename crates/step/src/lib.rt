@@ -7,7 +7,6 @@ ghost use Rattle.state.specs.Range.{inRange, countsInRange};
 ghost use Rattle.step.specs.Entry.{servedBy, appliedAt, oneIf, moreOf, plus};
 ghost use Rattle.step.specs.Step.{refused, outcomeOf, stepOf};
 use machine::Announced;
-use machine::NodeId;
 use machine::ThreadId;
 use object::Answer;
 use object::Applied;
