@@ -3,3 +3,4 @@ pub mod EachLine
 pub mod Entering
 pub mod Numbers
 pub mod Outcome
+pub mod Soundness

@@ -1,0 +1,58 @@
+-- From a state in range every step, refused or not, hands back a state in range, with arrays as long as they were. Assumes nothing.
+use Prim.Native.Nat.{ℕ}
+use mathlib.Core.Path.{_≡_, refl, _∙_}
+use mathlib.Core.Bool.{Bool, true, false, cond, not, and-eq-true-iff}
+use mathlib.Core.List.{List, [], _∷_}
+use lib.ListN.{length, length-set}
+use lib.Dec.{leb, eqb}
+use Rattle.object.specs.declared.Kind.{Kind}
+use Rattle.object.specs.declared.Object.{Object}
+use Rattle.object.specs.declared.Answer.the-variants.{Empty}
+use Rattle.object.specs.Apply.{answered}
+use Rattle.object.proofs.Plainly.{places-stay}
+use Rattle.machine.specs.declared.ThreadId.{ThreadId}
+use Rattle.machine.specs.declared.Announced.{Announced}
+use Rattle.machine.specs.declared.Announced.the-variants.{NoRequest, Asked}
+use Rattle.machine.specs.Lines.{Access}
+use Rattle.machine.specs.Effect.{usesEmpty}
+use Rattle.copies.specs.Remote.{copiesAfter, referred}
+use Rattle.state.specs.declared.State.{State}
+use Rattle.state.specs.Range.{inRange}
+use Rattle.state.specs.Shape.{Shaped}
+use Rattle.step.specs.Entry.{servedBy, line, target, node, effect, accesses, entered}
+use Rattle.step.specs.Step.{refused, goesThrough, stepOf}
+
+places : (kind : Kind) (capacity : ℕ) (ob : Object) → length (ob .items) ≡ 64 → (serves : Bool) (req : Announced)
+    → length (cond serves (servedBy kind capacity ob req) (answered Empty ob) .object .items) ≡ 64
+places kind capacity ob long false req = long
+places kind capacity ob long true NoRequest = long
+places kind capacity ob long true (Asked request) = places-stay kind capacity ob request long
+
+locations : (n t : ℕ) (copies : List ℕ) (accesses : List Access) → length (referred n t copies accesses .copies) ≡ length copies
+locations n t copies [] = refl
+locations n t copies (a ∷ accesses) = locations n t (copiesAfter n t a copies) accesses ∙ length-set copies _ _
+
+pub stays-shaped : (s : State) (t : ThreadId) → Shaped s → Shaped (entered s t)
+stays-shaped s t shaped = record {
+  threads = length-set (s .threads) (t .0) (effect s t .thread) ∙ shaped .threads;
+  nodes = length-set (s .nodes) (target s t .0) (effect s t .node) ∙ shaped .nodes;
+  requests = shaped .requests;
+  copies = locations (s .n) (t .0) (s .copies) (accesses s t) ∙ shaped .copies;
+  items = places (s .kind) (s .capacity) (s .object) (shaped .items) (eqb (line s t) 16) (node s t .req);
+}
+
+-- a state as `step` takes it: arrays of full length, and each number in its range
+pub record Sound (s : State) : Type 0 where
+  pub shape : Shaped s
+  pub range : inRange s ≡ true
+
+module _ (s : State) (t : ThreadId) (sound : Sound s) where
+  by-tests : (fits past through : Bool) → goesThrough s t ≡ through
+      → Sound (cond fits (cond past (refused 11 s) (cond through (record { refusal = 0; state = entered s t }) (refused 14 s))) (refused 14 s) .state)
+  by-tests false past through e = sound
+  by-tests true true through e = sound
+  by-tests true false false e = sound
+  by-tests true false true e = record { shape = stays-shaped s t (sound .shape); range = and-eq-true-iff (not (usesEmpty (node s t) (line s t))) (inRange (entered s t)) .0 e .1 }
+
+  pub stays-sound : Sound (stepOf s t .state)
+  stays-sound = by-tests (inRange s) (leb (s .n) (t .0)) (goesThrough s t) refl
