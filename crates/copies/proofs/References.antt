@@ -1,4 +1,4 @@
--- Remote references of one access, of none past the array, and of two lists of accesses in turn. Assumes nothing.
+-- Remote references of one access, of one past the array, and of two lists of accesses in turn. Assumes nothing.
 use Prim.Native.Nat.{ℕ, _+_, _≤_}
 use native.Mathlib.Nat.{zero-add, add-zero, add-assoc}
 use native.Mathlib.Omega.{arith}

@@ -1,4 +1,4 @@
--- Valid copies of one location: what a read and a write leave, and that the number stays one of 16 bits. Assumes nothing.
+-- Valid copies of one location: what a read and a write leave, and that what they add stays in 16 bits. Assumes nothing.
 use Prim.Native.Nat.{ℕ, _+_, _^_, _<_, _≤_}
 use native.Mathlib.Omega.{arith}
 use native.Mathlib.Decide.{decLe}
@@ -75,11 +75,8 @@ module _ (w t : ℕ) where
   pub added-fits : w < 2 ^ 16 → t < 16 → hasCopy w t ≡ false → w + 2 ^ t < 2 ^ 16
   added-fits f h e = set-fits w t 16 h f (bit-unheld w t h e)
 
-  pub read-fits : w < 2 ^ 16 → afterRead w t < 2 ^ 16
-  read-fits f = read-cases w t (λ v. v < 2 ^ 16) (λ k. f) (λ k e. f) (added-fits f)
-
 module _ (n w t : ℕ) where
-  -- after a write past n the threads have what they had
+  -- after a write the threads from n on have what they had
   pub write-keeps : (u : ℕ) → n ≤ u → hasCopy (afterWrite n w t) u ≡ hasCopy w u
   write-keeps u k =
       write-cases n w t (λ v. hasCopy v u ≡ hasCopy w u)
@@ -89,9 +86,6 @@ module _ (n w t : ℕ) where
   pub cleared-fits : w < 2 ^ 16 → t < n → n ≤ 16 → cleared n w + 2 ^ t < 2 ^ 16
   cleared-fits f h k =
       set-fits (cleared n w) t 16 (omega arith) (omega (arith, div-mul-le-self w (2 ^ n))) (bit-cleared n w t h)
-
-  pub write-fits : w < 2 ^ 16 → afterWrite n w t < 2 ^ 16
-  write-fits f = write-cases n w t (λ v. v < 2 ^ 16) f (cleared-fits f)
 
   module _ (h : t < n) (k : n ≤ 16) where
     -- after a write of one of n threads it has a copy

@@ -7,7 +7,7 @@ use lib.Dec.{leb, ltb, eqb}
 abbrev pub bitOf : ℕ → ℕ
 bitOf t = cond (ltb t 16) (2 ^ t) 0
 
--- whether a thread has a valid copy of a location
+-- whether a thread has a valid copy of the location whose number is given
 abbrev pub hasCopy : ℕ → ℕ → Bool
 hasCopy word t = ltb t 16 && eqb (word / 2 ^ t % 2) 1
 
@@ -15,6 +15,6 @@ hasCopy word t = ltb t 16 && eqb (word / 2 ^ t % 2) 1
 abbrev pub afterRead : ℕ → ℕ → ℕ
 afterRead word t = cond (hasCopy word t) word (word + bitOf t)
 
--- after a write the thread has a copy, and of the n threads no other has; what lies past n stays
+-- after a write of a thread below n it has a copy, and of the n threads no other has; what lies past n stays
 abbrev pub afterWrite : ℕ → ℕ → ℕ → ℕ
 afterWrite n word t = cond (ltb t n && leb n 16) (word / 2 ^ n * 2 ^ n + 2 ^ t) word

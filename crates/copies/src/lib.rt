@@ -37,7 +37,7 @@ pub fn after_read(word: u16, thread: ThreadId) -> u16
     word
 }
 
-// After a write the thread has a copy, and no other thread of the n.
+// After a write of a thread below n it has a copy, and no other of the n has.
 pub fn after_write(word: u16, thread: ThreadId, n: u8) -> u16
     ensures { λ r. ⌜ r ≡ afterWrite n word (thread .0) ⌝ }
 {
@@ -65,7 +65,7 @@ pub fn place(node: NodeId, field: Field) -> usize
     }
 }
 
-// After an access, a write or a read, to a location.
+// A location's number after a write or a read.
 fn after(word: u16, writes: bool, thread: ThreadId, n: u8) -> u16
     ensures { λ r. ⌜ r ≡ cond writes (afterWrite n word (thread .0)) (afterRead word (thread .0)) ⌝ }
 {
@@ -91,6 +91,7 @@ fn refer_at(copies: &mut [u16], at: usize, writes: bool, thread: ThreadId, n: u8
     1
 }
 
+// One access of a line to its node: 1 if it is remote, else 0.
 fn refer(copies: &mut [u16], access: SharedAccess, node: NodeId, thread: ThreadId, n: u8) -> u8
     ensures { λ r. ⌜ r ≡ referred n (thread .0) (now (copies .entry)) (accessTo node access) .remote ⌝ }
     ensures { λ r. ⌜ now (copies .exit) ≡ referred n (thread .0) (now (copies .entry)) (accessTo node access) .copies ⌝ }

@@ -1,4 +1,4 @@
--- The table of lines: its rule, over the whole table at once, and the numbers that name no line. Assumes nothing.
+-- The rows of the printed lines, as a list, and the numbers that name no line. Assumes nothing.
 use Prim.Native.Nat.{ℕ, zero, suc, _-_, _<_, _≤_}
 use native.Mathlib.Omega.{arith}
 use native.Mathlib.Numerals.{unary-clauses}
@@ -7,7 +7,7 @@ use mathlib.Core.List.{List, [], _∷_, map}
 use lib.ListN.{getD, length, List·getD-map}
 use Rattle.machine.specs.Lines.{Blank, printed, lineOf, silent, rowOf}
 
--- the table is the list of the rows of the printed lines, and place k holds the row of line k + 1
+-- place k of the list of the rows holds the row of line k + 1
 pub row-at : (line : ℕ) → 0 < line → getD (map rowOf printed) (line - 1) silent ≡ rowOf (lineOf line)
 row-at zero h = absurd (omega arith)
 row-at (suc k) h = simp unary-clauses (List·getD-map rowOf printed k Blank)

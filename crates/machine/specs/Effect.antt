@@ -96,8 +96,8 @@ begins th = record {
 abbrev pub usesEmpty : Node → ℕ → Bool
 usesEmpty x line = eqb line 16 && isEmptyReq (x .req) || (eqb line 11 || eqb line 21) && isEmptyRet (x .ret)
 
--- what the line of a thread in range can take out: the requests begun past the count, the served counter past h, null into tmpNode,
--- or the use of an empty req or ret; and past 21 there is no line to run
+-- why the line of a thread in range is 14: it would take the requests begun past the count or the served counter past h, or put null into
+-- tmpNode, or it uses an empty req or ret; and past 21 there is no line to run
 abbrev pub takesOut : Thread → Node → ℕ → ℕ → Bool
 takesOut th x h line =
     ltb 21 line

@@ -2,15 +2,18 @@
 ghost use mathlib.Core.Path.{_≡_};
 ghost use mathlib.Core.Bool.{false, cond};
 ghost use Rattle.machine.specs.Lines.{lineOf, lineRun, silent, rowOf, pointed};
-ghost use Rattle.machine.specs.Effect.{null, isNull, isEmptyReq, isEmptyRet, withReq, withRet, usesEmpty, takesOut, ran, effectOf};
+ghost use Rattle.machine.specs.Effect.{isNull, isEmptyReq, isEmptyRet, withReq, withRet, usesEmpty, takesOut, ran, effectOf};
 use object::Answer;
 use object::Request;
 
 // A thread's number, 0 to n − 1.
 pub struct ThreadId(pub u8);
 
-// A node's number, 0 to n, or 255 for null.
+// A node's number, 0 to n, or null.
 pub struct NodeId(pub u8);
+
+// Null is no node's number.
+pub const NULL: u8 = 255;
 
 // The field req of a node: empty at first.
 pub enum Announced {
@@ -84,106 +87,127 @@ pub struct Effect {
 
 // The printed lines, 1 to 21.
 const LINES: [Row; 21] = [
+    // 1
     Row {
         node: Pointer::Own,
         first: SharedAccess::NoAccess,
         second: SharedAccess::NoAccess,
     },
+    // 2
     Row {
         node: Pointer::Own,
         first: SharedAccess::Write(Field::Next),
         second: SharedAccess::NoAccess,
     },
+    // 3
     Row {
         node: Pointer::Own,
         first: SharedAccess::Write(Field::Wait),
         second: SharedAccess::NoAccess,
     },
+    // 4
     Row {
         node: Pointer::Own,
         first: SharedAccess::Write(Field::Completed),
         second: SharedAccess::NoAccess,
     },
+    // 5
     Row {
         node: Pointer::Own,
         first: SharedAccess::Swap,
         second: SharedAccess::NoAccess,
     },
+    // 6
     Row {
         node: Pointer::Cur,
         first: SharedAccess::Write(Field::Req),
         second: SharedAccess::NoAccess,
     },
+    // 7
     Row {
         node: Pointer::Cur,
         first: SharedAccess::Write(Field::Next),
         second: SharedAccess::NoAccess,
     },
+    // 8
     Row {
         node: Pointer::Own,
         first: SharedAccess::NoAccess,
         second: SharedAccess::NoAccess,
     },
+    // 9
     Row {
         node: Pointer::Cur,
         first: SharedAccess::Read(Field::Wait),
         second: SharedAccess::NoAccess,
     },
+    // 10
     Row {
         node: Pointer::Cur,
         first: SharedAccess::Read(Field::Completed),
         second: SharedAccess::NoAccess,
     },
+    // 11
     Row {
         node: Pointer::Cur,
         first: SharedAccess::Read(Field::Ret),
         second: SharedAccess::NoAccess,
     },
+    // 12
     Row {
         node: Pointer::Own,
         first: SharedAccess::NoAccess,
         second: SharedAccess::NoAccess,
     },
+    // 13
     Row {
         node: Pointer::Tmp,
         first: SharedAccess::Read(Field::Next),
         second: SharedAccess::NoAccess,
     },
+    // 14
     Row {
         node: Pointer::Own,
         first: SharedAccess::NoAccess,
         second: SharedAccess::NoAccess,
     },
+    // 15
     Row {
         node: Pointer::Tmp,
         first: SharedAccess::Read(Field::Next),
         second: SharedAccess::NoAccess,
     },
+    // 16
     Row {
         node: Pointer::Tmp,
         first: SharedAccess::Read(Field::Req),
         second: SharedAccess::Write(Field::Ret),
     },
+    // 17
     Row {
         node: Pointer::Tmp,
         first: SharedAccess::Write(Field::Completed),
         second: SharedAccess::NoAccess,
     },
+    // 18
     Row {
         node: Pointer::Tmp,
         first: SharedAccess::Write(Field::Wait),
         second: SharedAccess::NoAccess,
     },
+    // 19
     Row {
         node: Pointer::Own,
         first: SharedAccess::NoAccess,
         second: SharedAccess::NoAccess,
     },
+    // 20
     Row {
         node: Pointer::Tmp,
         first: SharedAccess::Write(Field::Wait),
         second: SharedAccess::NoAccess,
     },
+    // 21
     Row {
         node: Pointer::Cur,
         first: SharedAccess::Read(Field::Ret),
@@ -191,16 +215,10 @@ const LINES: [Row; 21] = [
     },
 ];
 
-pub fn null() -> NodeId
-    ensures { λ r. ⌜ r ≡ null ⌝ }
-{
-    NodeId(255)
-}
-
 pub fn is_null(node: NodeId) -> bool
     ensures { λ r. ⌜ r ≡ isNull node ⌝ }
 {
-    node.0 == 255
+    node.0 == NULL
 }
 
 fn is_empty_req(req: Announced) -> bool
@@ -281,7 +299,7 @@ fn uses_empty(node: Node, line: u8) -> bool
     (line == 16) & no_req | ((line == 11) | (line == 21)) & no_ret
 }
 
-// What a line can take out: a number of its thread, or the use of an empty req or ret.
+// Why a line is 14: it would take a number of its thread out, uses an empty req or ret, or is past 21.
 fn takes_out(line: u8, thread: Thread, node: Node, h: u8) -> bool
     ensures { λ r. ⌜ r ≡ takesOut thread node h line ⌝ }
 {
@@ -342,7 +360,7 @@ fn ran(
     requires { ⌜ takesOut thread node h line ≡ false ⌝ }
     ensures { λ r. ⌜ r ≡ ran thread node tail h request answer (lineOf line) ⌝ }
 {
-    let null = NodeId(255);
+    let null = NodeId(NULL);
     let own = thread.own;
     let cur = thread.cur;
     let tmpnext = thread.tmpnext;
@@ -402,7 +420,7 @@ fn ran(
             th.line = 13;
         }
         13 => {
-            th.line = either((next.0 != 255) & (thread.served < h), 14, 20);
+            th.line = either((next.0 != NULL) & (thread.served < h), 14, 20);
         }
         14 => {
             th.served = thread.served + 1;
@@ -445,8 +463,8 @@ fn ran(
     }
 }
 
-// What the next line of a thread does to it, to the node that it points to and to Tail; 14 if it would take a number of the thread out or use an
-// empty req or ret. The request is that of the thread's call, the answer the object's to the node's req.
+// What the next line of a thread does to it, to the node that it points to and to Tail; 14 if it would take a number of the thread out, uses an
+// empty req or ret, or is past 21. The request is that of the thread's call, the answer the object's to the node's req.
 pub fn run_line(
     thread: Thread,
     node: Node,

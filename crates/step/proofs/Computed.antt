@@ -1,4 +1,4 @@
--- The step computes: document 01's counter file with a third add, 63 entries, and one entry more, which is a blank.
+-- The step computes: document 01's counter file with a third add, 63 entries, and one entry more, which is a blank. Assumes nothing.
 use mathlib.Core.Path.{_≡_, refl}
 use mathlib.Core.List.{List, _∷_}
 use lib.ListN.{replicate}

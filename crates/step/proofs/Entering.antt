@@ -1,4 +1,4 @@
--- What `enter` puts together, one equation for each of its calls, is the outcome of the entry; and the order in which `step` judges. Assumes nothing.
+-- What `enter` puts together, one equation for each of its calls, is the outcome of the entry; and the order in which `step` judges. Assumes what the modules' parameters say.
 use Prim.Native.Nat.{ℕ, _+_, _-_, _*_, _<_, _≤_}
 use mathlib.Core.Path.{_≡_, refl, sym, ap, _∙_}
 use mathlib.Core.Bool.{Bool, true, false, cond, not, _&&_}

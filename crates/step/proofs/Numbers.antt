@@ -1,4 +1,4 @@
--- The line that a thread in range runs, as a line and not a number. Assumes nothing.
+-- Lines and their numbers, and where a thread stands that runs one. Assumes nothing.
 use Prim.Native.Nat.{ℕ, zero, suc, _+_, _≤_, _<_}
 use native.Mathlib.Omega.{arith}
 use mathlib.Core.Path.{_≡_, refl}

@@ -1,4 +1,4 @@
--- From a state in range every step, refused or not, hands back a state in range, with arrays as long as they were. Assumes nothing.
+-- From a state in range every step, refused or not, hands back a state in range, with arrays as long as they were. Assumes what the module's parameters say.
 use Prim.Native.Nat.{ℕ}
 use mathlib.Core.Path.{_≡_, refl, _∙_}
 use mathlib.Core.Bool.{Bool, true, false, cond, not, and-eq-true-iff}

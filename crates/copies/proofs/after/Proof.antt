@@ -1,3 +1,4 @@
+-- `copies::after` meets its contract: a write or a read. Assumes nothing.
 use borrow.Author.Needs.{needs}
 use Rattle.copies.proofs.after.Statement.{statement}
 use Rattle.copies.proofs.after.Tie as tie

@@ -1,3 +1,4 @@
+-- `copies::after_read` meets its contract: the bit is there, or is added. Assumes nothing.
 use borrow.Author.Needs.{needs}
 use borrow.Author.Tests.{lt-ltb, le-ltb}
 use mathlib.Core.Bool.{false}

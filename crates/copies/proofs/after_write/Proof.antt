@@ -1,3 +1,4 @@
+-- `copies::after_write` meets its contract: the bits below n are cleared, and one is set. Assumes nothing.
 use borrow.Author.Needs.{needs}
 use borrow.Author.Tests.{lt-ltb, le-ltb, le-leb, lt-leb}
 use mathlib.Core.Bool.{and-false}

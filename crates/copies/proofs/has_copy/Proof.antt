@@ -1,3 +1,4 @@
+-- `copies::has_copy` meets its contract: the shifted number is odd. Assumes nothing.
 use borrow.Author.Needs.{needs}
 use borrow.Author.Tests.{lt-ltb, le-ltb}
 use Rattle.copies.proofs.has_copy.Statement.{statement}

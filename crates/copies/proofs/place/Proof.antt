@@ -1,3 +1,4 @@
+-- `copies::place` meets its contract: by the field. Assumes nothing.
 use borrow.Author.Needs.{needs}
 use native.Mathlib.Omega.{arith}
 use Rattle.copies.proofs.place.Statement.{statement}

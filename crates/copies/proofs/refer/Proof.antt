@@ -1,3 +1,4 @@
+-- `copies::refer` meets its contract: each access is one or none. Assumes nothing.
 use Rattle.machine.specs.Lines.{part, tail, read, write, swap}
 use borrow.Author.Needs.{needs}
 use mathlib.Core.Path.{refl}

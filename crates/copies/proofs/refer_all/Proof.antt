@@ -1,3 +1,4 @@
+-- `copies::refer_all` meets its contract: two accesses in turn. Assumes nothing.
 use Rattle.machine.specs.Lines.{accessTo}
 use borrow.Author.Needs.{needs}
 use Rattle.copies.proofs.References.{two-referred}

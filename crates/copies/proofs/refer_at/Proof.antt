@@ -1,3 +1,4 @@
+-- `copies::refer_at` meets its contract: a place past the array, or one in it. Assumes nothing.
 use borrow.Author.Needs.{needs}
 use lib.ListN.{set}
 use lib.Seq.{set-out}
