@@ -3,7 +3,7 @@ ghost use mathlib.Core.Path.{_≡_};
 ghost use Prim.Native.Nat.{_≤_};
 ghost use Rattle.object.specs.Paper.{within, kindNumber, kindOf, requestCode, requestValue, requestOf, answerMark, answerValue, leastCode, mostCode, codeKnown, valueAllowed, leastCapacity, mostCapacity, capacityAllowed};
 ghost use Rattle.object.specs.Plain.{fresh};
-ghost use Rattle.object.specs.Apply.{freshObject, holds, answered, refusedWith, putOf, takeFirstOf, takeLastOf, takeOf, addOf, movedDown, heldInRange, appliedTo, applyOf, AppliesPlainly};
+ghost use Rattle.object.specs.Apply.{freshObject, holds, knows, answered, refusedWith, putOf, takeFirstOf, takeLastOf, takeOf, addOf, movedDown, heldInRange, appliedTo, applyOf, AppliesPlainly};
 
 // What the object byte of a bench file names.
 pub enum Kind {
@@ -312,12 +312,19 @@ fn add(value: u32, object: Object) -> Applied
     answered(Answer::Value(sum), after)
 }
 
+// A request that the object knows.
+pub fn knows(kind: Kind, request: Request) -> bool
+    ensures { λ r. ⌜ r ≡ knows kind request ⌝ }
+{
+    code_known(kind, request_code(request))
+}
+
 // A request to an object in range.
 fn applied_to(kind: Kind, capacity: u8, request: Request, object: Object) -> Applied
     requires { ⌜ (capacity ≤ 64) × (object .held ≤ 64) ⌝ }
     ensures { λ r. ⌜ r ≡ appliedTo kind capacity request object ⌝ }
 {
-    if !code_known(kind, request_code(request)) {
+    if !knows(kind, request) {
         return refused_with(9, object);
     }
     match request {

@@ -2,7 +2,6 @@
 ghost use mathlib.Core.Path.{_≡_};
 ghost use Prim.Native.Nat.{_+_, _≤_};
 ghost use lib.ListN.{take};
-ghost use Rattle.object.specs.Apply.{knows};
 ghost use Rattle.state.specs.Range.{every, pointerInRange, lineInRange, requestsInRange, threadInRange, reqInRange, nodeInRange, slotInRange, rowOfThread, rowsInRange, headInRange, inRange};
 use machine::Announced;
 use machine::Node;
@@ -80,18 +79,12 @@ fn thread_in_range(n: u8, h: u8, thread: Thread) -> bool
     requests_fit & line_fits & own_fits & cur_fits & tmp_fits & tmpnext_fits & (thread.served <= h)
 }
 
-fn known(kind: Kind, request: Request) -> bool
-    ensures { λ r. ⌜ r ≡ knows kind request ⌝ }
-{
-    object::code_known(kind, object::request_code(request))
-}
-
 fn req_in_range(kind: Kind, req: Announced) -> bool
     ensures { λ r. ⌜ r ≡ reqInRange kind req ⌝ }
 {
     match req {
         Announced::NoRequest => true,
-        Announced::Asked(request) => known(kind, request),
+        Announced::Asked(request) => object::knows(kind, request),
     }
 }
 
@@ -148,7 +141,7 @@ fn row_in_range(kind: Kind, requests: [Slot; 256], thread: usize, count: u8) -> 
     while (i < end) & (i < 256) {
         let slot = requests[i];
         let request = slot.request;
-        if !known(kind, request) {
+        if !object::knows(kind, request) {
             return false;
         }
         i += 1;

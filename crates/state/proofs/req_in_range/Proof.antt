@@ -9,14 +9,14 @@ enum-told c = search needs
 enum-known-req : tie.Need-enum-known-req
 enum-known-req c = search needs
 
-known-requires : tie.Need-known-requires
-known-requires c κs = search needs
+knows-requires : tie.Need-knows-requires
+knows-requires c κs = search needs
 
 returns : tie.Need-returns
 returns c = search needs
 
 returns-2 : tie.Need-returns-2
-returns-2 c = simp (c .before .before .req .given .1, c .known .ensures)
+returns-2 c = simp (c .before .before .req .given .1, c .knows .ensures)
 
 pub req-in-range-spec : {M : Type 1} → statement M
-req-in-range-spec = tie.close (tie.spec enum-told enum-known-req known-requires returns returns-2)
+req-in-range-spec = tie.close (tie.spec enum-told enum-known-req knows-requires returns returns-2)

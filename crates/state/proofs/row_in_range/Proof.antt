@@ -33,14 +33,14 @@ mul-slot c = let h = inside c in search needs
 array-copy-out-slot : tie.Need-array-copy-out-slot Inv-loop μ-loop
 array-copy-out-slot c = let h = inside c in search needs
 
-known-requires : tie.Need-known-requires Inv-loop μ-loop
-known-requires c κs = search needs
+knows-requires : tie.Need-knows-requires Inv-loop μ-loop
+knows-requires c κs = search needs
 
 returns : tie.Need-returns Inv-loop μ-loop
 returns c =
     let d = c .before .before in
     let h = inside (d .before) in
-    fails (d .before .before .loop .inv) _ (h .0) (search needs) (c .before .known .ensures) (c .if1 .taken)
+    fails (d .before .before .loop .inv) _ (h .0) (search needs) (c .before .knows .ensures) (c .if1 .taken)
 
 add-i : tie.Need-add-i Inv-loop μ-loop
 add-i c = let h = inside (c .before .before .before) in search needs
@@ -52,7 +52,7 @@ loop-again : tie.Need-loop-again Inv-loop μ-loop
 loop-again c =
     let d = c .before .before in
     let h = inside (d .before) in
-    goes-on (d .before .before .loop .inv) _ (h .0) (search needs) (c .before .known .ensures) (c .if1 .left)
+    goes-on (d .before .before .loop .inv) _ (h .0) (search needs) (c .before .knows .ensures) (c .if1 .left)
 
 returns-2 : tie.Need-returns-2 Inv-loop μ-loop
 returns-2 c = ends-either (c .before .loop .inv) 256 (search needs) (c .loop-test .left)
@@ -68,7 +68,7 @@ row-in-range-spec =
     loop-holds
     mul-slot
     array-copy-out-slot
-    known-requires
+    knows-requires
     returns
     add-i
     loop-less

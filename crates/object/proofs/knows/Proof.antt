@@ -1,7 +1,7 @@
--- `state::known` meets its contract: the request's code is known. Assumes nothing.
+-- `object::knows` meets its contract: the request's code is known. Assumes nothing.
 use borrow.Author.Needs.{needs}
-use Rattle.state.proofs.known.Statement.{statement}
-use Rattle.state.proofs.known.Tie as tie
+use Rattle.object.proofs.knows.Statement.{statement}
+use Rattle.object.proofs.knows.Tie as tie
 
 request-code-requires : tie.Need-request-code-requires
 request-code-requires c κs = search needs
@@ -12,5 +12,5 @@ code-known-requires c κs = search needs
 returns : tie.Need-returns
 returns c = simp (c .before .request-code .ensures, c .code-known .ensures)
 
-pub known-spec : {M : Type 1} → statement M
-known-spec = tie.close (tie.spec request-code-requires code-known-requires returns)
+pub knows-spec : {M : Type 1} → statement M
+knows-spec = tie.close (tie.spec request-code-requires code-known-requires returns)
