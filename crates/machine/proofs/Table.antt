@@ -1,10 +1,10 @@
 -- The rows of the printed lines, as a list, and the numbers that name no line. Assumes nothing.
-use Prim.Native.Nat.{ℕ, zero, suc, _-_, _<_, _≤_}
+use Prim.Native.Nat.{ℕ, zero, suc, _-_, _<_}
 use native.Mathlib.Omega.{arith}
 use native.Mathlib.Numerals.{unary-clauses}
 use mathlib.Core.Path.{_≡_, refl, sym}
-use mathlib.Core.List.{List, [], _∷_, map}
-use lib.ListN.{getD, length, List·getD-map}
+use mathlib.Core.List.{map}
+use lib.ListN.{getD, List·getD-map, List·getD-eq-default}
 use Rattle.machine.specs.Lines.{Blank, printed, lineOf, silent, rowOf}
 
 -- place k of the list of the rows holds the row of line k + 1
@@ -24,15 +24,10 @@ past (suc k) n h r =
     let other : n ≡ suc k → ⊥ = r .1 in
     omega arith
 
-beyond : {A : Type 0} (xs : List A) (k : ℕ) (d : A) → length xs ≤ k → getD xs k d ≡ d
-beyond [] k d h = refl
-beyond (x ∷ xs) zero d h = absurd (omega arith)
-beyond (x ∷ xs) (suc k) d h = beyond xs k d (omega arith)
-
 -- past 21 there is no line
 pub no-line-above : (n : ℕ) → 21 < n → Blank ≡ lineOf n
 no-line-above zero h = absurd (omega arith)
-no-line-above (suc k) h = sym (beyond printed k Blank (omega arith))
+no-line-above (suc k) h = sym (List·getD-eq-default printed Blank {n = k} (omega arith))
 
 -- nor among what is left when 1 to 21 are taken out
 pub no-line : (n : ℕ) → NoneOf 21 n → Blank ≡ lineOf n

@@ -8,10 +8,11 @@ use lib.ListN.{length, take}
 use lib.Ieee.Bits.{is-true}
 use borrow.Author.Tests.{ltb-true}
 use Rattle.object.specs.declared.Kind.{Kind}
+use Rattle.object.specs.declared.Request.{Request}
 use Rattle.object.specs.declared.Object.{Object}
 use Rattle.object.specs.declared.Answer.the-variants.{Empty}
 use Rattle.object.specs.Paper.{within}
-use Rattle.object.specs.Apply.{knows, heldInRange, answered}
+use Rattle.object.specs.Apply.{knows, heldInRange, answered, applyOf}
 use Rattle.object.proofs.Plainly.{applies-plainly}
 use Rattle.machine.specs.declared.ThreadId.{ThreadId}
 use Rattle.machine.specs.declared.Announced.{Announced}
@@ -22,19 +23,20 @@ use Rattle.state.specs.Range.{every, headInRange, rowsInRange, inRange, threadI
 use Rattle.state.specs.Shape.{Shaped}
 use Rattle.state.proofs.Kept.{first-set, first-at, rows-stay, known-at}
 use Rattle.state.proofs.RangeFacts.{ThreadFits, thread-iff, points-iff, StateFits, state-fits}
-use Rattle.step.specs.Entry.{zeroThread, zeroNode, zeroSlot, servedBy, named, line, target, node, request, applied, effect, countsAfter, entered}
+use Rattle.step.specs.Entry.{zeroThread, zeroNode, zeroSlot, servedBy, appliedAt, named, line, target, node, request, applied, effect, countsAfter, entered}
 use Rattle.step.specs.Step.{goesThrough}
 use Rattle.step.proofs.Numbers.{standsAt, Runs, runs}
 use Rattle.step.proofs.EachLine.{Leaves, leaves-at, target-at}
 
--- an object in range stays so, whether or not a req is served
-module _ (kind : Kind) (capacity : ℕ) (ob : Object) (long : length (ob .items) ≡ 64)
-    (fits : heldInRange kind capacity (ob .held) ≡ true) where
-  object-stays : (serves : Bool) (req : Announced)
-      → heldInRange kind capacity (cond serves (servedBy kind capacity ob req) (answered Empty ob) .object .held) ≡ true
-  object-stays false req = fits
-  object-stays true NoRequest = fits
-  object-stays true (Asked request) = is-true _ (applies-plainly kind capacity ob request long .stays (rw fits tt))
+-- what holds of an object, and of it after each request, holds after an entry, whether or not a req is served
+pub object-keeps : (P : Object → Type 0) (line : ℕ) (kind : Kind) (capacity : ℕ) (ob : Object) (req : Announced) → P ob
+    → ((request : Request) → P (applyOf kind capacity ob request .object)) → P (appliedAt line kind capacity ob req .object)
+object-keeps P line kind capacity ob req before after = by-line (eqb line 16) req
+  where
+    by-line : (serves : Bool) (req : Announced) → P (cond serves (servedBy kind capacity ob req) (answered Empty ob) .object)
+    by-line false req = before
+    by-line true NoRequest = before
+    by-line true (Asked request) = after request
 
 -- what the parts of a state's range come to where all hold but the threads and the counts
 together : {a b d e v : Bool} (u c z : Bool) → a ≡ true → b ≡ true → d ≡ true → e ≡ true → (not u && c) ≡ v
@@ -86,7 +88,8 @@ module _ (s : State) (t : ThreadId) (shaped : Shaped s) (range : inRange s ≡ t
   head-stays =
       and-eq-true-iff (within 1 (s .n) 16 && within 1 (s .h) 255) (heldInRange (s .kind) (s .capacity) (applied s t .object .held)) .1 (
         facts .limits,
-        object-stays (s .kind) (s .capacity) (s .object) (shaped .items) (facts .held) (eqb (line s t) 16) (node s t .req),
+        object-keeps (λ ob. heldInRange (s .kind) (s .capacity) (ob .held) ≡ true) (line s t) (s .kind) (s .capacity) (s .object) (node s t .req) (facts .held)
+            (λ request. is-true _ (applies-plainly (s .kind) (s .capacity) (s .object) request (shaped .items) .stays (rw (facts .held) tt))),
       )
 
   -- the threads hold exactly if the named one does

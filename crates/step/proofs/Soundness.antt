@@ -4,29 +4,18 @@ use mathlib.Core.Path.{_≡_, refl, _∙_}
 use mathlib.Core.Bool.{Bool, true, false, cond, not, and-eq-true-iff}
 use mathlib.Core.List.{List, [], _∷_}
 use lib.ListN.{length, length-set}
-use lib.Dec.{leb, eqb}
-use Rattle.object.specs.declared.Kind.{Kind}
-use Rattle.object.specs.declared.Object.{Object}
-use Rattle.object.specs.declared.Answer.the-variants.{Empty}
-use Rattle.object.specs.Apply.{answered}
+use lib.Dec.{leb}
 use Rattle.object.proofs.Plainly.{places-stay}
 use Rattle.machine.specs.declared.ThreadId.{ThreadId}
-use Rattle.machine.specs.declared.Announced.{Announced}
-use Rattle.machine.specs.declared.Announced.the-variants.{NoRequest, Asked}
 use Rattle.machine.specs.Lines.{Access}
 use Rattle.machine.specs.Effect.{usesEmpty}
 use Rattle.copies.specs.Remote.{copiesAfter, referred}
 use Rattle.state.specs.declared.State.{State}
 use Rattle.state.specs.Range.{inRange}
 use Rattle.state.specs.Shape.{Shaped}
-use Rattle.step.specs.Entry.{servedBy, line, target, node, effect, accesses, entered}
+use Rattle.step.specs.Entry.{line, target, node, effect, accesses, entered}
 use Rattle.step.specs.Step.{refused, goesThrough, stepOf}
-
-places : (kind : Kind) (capacity : ℕ) (ob : Object) → length (ob .items) ≡ 64 → (serves : Bool) (req : Announced)
-    → length (cond serves (servedBy kind capacity ob req) (answered Empty ob) .object .items) ≡ 64
-places kind capacity ob long false req = long
-places kind capacity ob long true NoRequest = long
-places kind capacity ob long true (Asked request) = places-stay kind capacity ob request long
+use Rattle.step.proofs.Outcome.{object-keeps}
 
 locations : (n t : ℕ) (copies : List ℕ) (accesses : List Access) → length (referred n t copies accesses .copies) ≡ length copies
 locations n t copies [] = refl
@@ -38,7 +27,9 @@ stays-shaped s t shaped = record {
   nodes = length-set (s .nodes) (target s t .0) (effect s t .node) ∙ shaped .nodes;
   requests = shaped .requests;
   copies = locations (s .n) (t .0) (s .copies) (accesses s t) ∙ shaped .copies;
-  items = places (s .kind) (s .capacity) (s .object) (shaped .items) (eqb (line s t) 16) (node s t .req);
+  items =
+      object-keeps (λ ob. length (ob .items) ≡ 64) (line s t) (s .kind) (s .capacity) (s .object) (node s t .req) (shaped .items)
+      (λ request. places-stay (s .kind) (s .capacity) (s .object) request (shaped .items));
 }
 
 -- a state as `step` takes it: arrays of full length, and each number in its range
