@@ -1,0 +1,303 @@
+-- Requests, answers and the object: the data invariant holds at the start and is kept by every line, and no line uses an empty req or ret or takes a number out.
+-- Assumes the control invariant; to be kept also that the object and the req that it's applied to are in range.
+use Prim.Native.Nat.{ℕ, suc, _≤_, _<_}
+use native.Mathlib.Omega.{arith}
+use mathlib.Core.Path.{_≡_, refl, sym, ap, _∙_}
+use mathlib.Core.Bool.{Bool, true, false, _&&_}
+use mathlib.Core.List.{List, [], _∷_, _++_}
+use lib.ListN.{length, getD, take, length-append, List·getD-append, List·getD-eq-default}
+use lib.Seq.{take-append-le, getD-at}
+use lib.Dec.{T, leb, ltb, eqb}
+use borrow.Author.Tests.{lt-leb, ne-eqb, eqb-true, ltb-true}
+use Rattle.object.specs.declared.Kind.{Kind}
+use Rattle.object.specs.declared.Request.{Request}
+use Rattle.object.specs.declared.Request.the-variants.{Put}
+use Rattle.object.specs.declared.Answer.{Answer}
+use Rattle.object.specs.declared.Answer.the-variants.{Empty}
+use Rattle.object.specs.declared.Object.{Object}
+use Rattle.object.specs.Plain.{fresh, answersFrom}
+use Rattle.object.specs.Apply.{knows, freshObject, objectInRange}
+use Rattle.object.proofs.Plainly.{applies-plainly}
+use Rattle.machine.specs.declared.Announced.the-variants.{Asked}
+use Rattle.machine.specs.declared.RetVal.the-variants.{Answered}
+use Rattle.machine.specs.declared.Node.{Node}
+use Rattle.machine.specs.declared.Thread.{Thread}
+use Rattle.machine.specs.Lines.{Line, Blank, L1, L2, L3, L4, L5, L6, L7, L8, L9, L10, L11, L12, L13, L14, L15, L16, L17, L18, L19, L20, L21}
+use Rattle.machine.specs.Effect.{isNull, isEmptyRet, usesEmpty, takesOut}
+use Rattle.state.specs.Range.{reqInRange}
+use Rattle.step.proofs.Numbers.{number, standsAt}
+use Rattle.invariant.specs.Stages.{stages, dummy, stageOf, queued, isThread}
+use Rattle.invariant.specs.Ledger.{Ledger, freshLedger, upd, noted}
+use Rattle.invariant.specs.View.{View, goal, does, Does}
+use Rattle.invariant.specs.Control.{Control}
+use Rattle.invariant.specs.Data.{plainAfter, openRequest, appliedBy, grown, CallData, Data}
+use Rattle.invariant.proofs.Feeding.{answers-next, after-next}
+use Rattle.invariant.proofs.Upd.{by-equal, upd-same, upd-other}
+use Rattle.invariant.proofs.Seats.{node-bound, now as stage-facts}
+use Rattle.invariant.proofs.InQueue.{inQueue, Linked, node-cur, at-below, curs-apart, linked-thread}
+
+-- a test that is made at one number only
+unless : (k j : ℕ) (b : Bool) → (k ≡ j → b ≡ false) → (eqb k j && b) ≡ false
+unless k j b f = by-test (eqb k j) refl
+  where
+    by-test : (test : Bool) → eqb k j ≡ test → (test && b) ≡ false
+    by-test true e = f (eqb-true k j e)
+    by-test false e = refl
+
+-- past 21 no thread stands
+few : (k : ℕ) → T (isThread (stageOf (standsAt k))) → ltb 21 k ≡ false
+few k i = by-test (ltb 21 k) refl
+  where
+    by-test : (test : Bool) → ltb 21 k ≡ test → test ≡ false
+    by-test true e =
+        let past = ltb-true 21 k e in
+        absurd (rw (lt-leb k 1 (omega arith), List·getD-eq-default stages dummy past) at i)
+    by-test false e = refl
+
+-- a thread stays in the queue, with its call and its node
+record Stays (th th′ : Thread) : Type 0 where
+  queued : T (queued (stageOf (th .line)))
+  announced : (th′ .line ≡ 6 → ⊥) → th .line ≡ 6 → ⊥
+  cur : th′ .cur ≡ th .cur
+  begun : th′ .begun ≡ th .begun
+
+-- line 16 serves the position after those applied: a thread's, whose node is tmpNode
+pub record Serving (n : ℕ) (v : View) (g : Ledger) (t : ℕ) : Type 0 where
+  pub node : v .thread t .tmp .0 ≡ g .node (g .a)
+  pub who : Linked n v g (g .a) (g .who (g .a))
+
+pub serving : {n h : ℕ} {v : View} {g : Ledger} → Control n h v g → (t : ℕ) → t < n → v .thread t .line ≡ 16 → Serving n v g t
+serving {n} {h} {v} {g} c t below e =
+    let f = stage-facts n h v g c t 16 below e .1 .1 in
+    let same : g .a ≡ g .r = omega (arith, f .applied) in
+    record {
+      node = f .serving ∙ ap (g .node) (sym same);
+      who = linked-thread c (g .a) (omega arith) (omega (arith, c .order)) (ap (g .linked) same ∙ f .linked tt);
+    }
+
+-- the nodes and the threads after thread t's line, by what it does to its own
+module _ {n h : ℕ} {v v′ : View} {t : ℕ} {l : Line} {request : Request} {answer : Answer} (d : Does n h v v′ t l request answer) where
+  -- a field that the line leaves at its node, it leaves everywhere
+  field-kept : {A : Type 0} (field : Node → A) → field (does v t l h request answer .node) ≡ field (v .node (goal v t l))
+      → (m : ℕ) → field (v′ .node m) ≡ field (v .node m)
+  field-kept field e m =
+      by-equal m (goal v t l) (λ i. rw i (ap field (d .there) ∙ e)) (λ i. ap field (d .elsewhere m i))
+
+  stays-others : (u : ℕ) → (u ≡ t → ⊥) → inQueue v′ u → Stays (v .thread u) (v′ .thread u)
+  stays-others u other = rw (d .others u other) (λ q. record { queued = q; announced = λ a. a; cur = refl; begun = refl })
+
+  -- from line 7 on the thread itself stays, if the line leaves its call and its node
+  stays-itself : T (queued (stageOf (standsAt (number l)))) → (standsAt (number l) ≡ 6 → ⊥)
+      → does v t l h request answer .thread .cur ≡ v .thread t .cur → does v t l h request answer .thread .begun ≡ v .thread t .begun
+      → Stays (v .thread t) (does v t l h request answer .thread)
+  stays-itself q past cur begun = record { queued = rw (d .stands) q; announced = λ _. rw (d .stands) past; cur = cur; begun = begun }
+
+  stays-all : (T (queued (stageOf (does v t l h request answer .thread .line))) → Stays (v .thread t) (does v t l h request answer .thread))
+      → (u : ℕ) → inQueue v′ u → Stays (v .thread u) (v′ .thread u)
+  stays-all mine u = by-equal u t (λ e. rw (e, d .mine) mine) (stays-others u)
+
+module _ {n h : ℕ} {v : View} {g : Ledger} (c : Control n h v g) {requests : ℕ → ℕ → Request} {kind : Kind} {capacity : ℕ}
+    {jobs : List Request} {answers : List Answer} {ob : Object} (now : Data n requests kind capacity v g jobs answers ob) where
+  -- the node of a linked position asks the request at it
+  pub linked-asks : {i u : ℕ} → Linked n v g i u → v .node (g .node i) .req ≡ Asked (getD jobs i (Put 0))
+  linked-asks w =
+      let f = now .call _ (w .below) (w .queued) in
+      rw (← w .node, ← w .at) (f .asked (w .announced) ∙ ap Asked (sym (f .job)))
+
+  -- so does tmpNode at line 16
+  pub served-asks : (t : ℕ) → t < n → v .thread t .line ≡ 16 → v .node (v .thread t .tmp .0) .req ≡ Asked (getD jobs (g .a) (Put 0))
+  served-asks t below e = let s = serving c t below e in rw (s .node) (linked-asks (s .who))
+
+  -- a call that is applied finds its answer
+  answer-there : (t : ℕ) → t < n → inQueue v t → g .at t < g .a → isEmptyRet (v .node (v .thread t .cur .0) .ret) ≡ false
+  answer-there t below q applied = rw (now .call t below q .replied applied)
+
+  pub uses-none : {v′ : View} {t : ℕ} {request : Request} {answer : Answer} (l : Line) → Does n h v v′ t l request answer
+      → usesEmpty (v .node (goal v t l)) (number l) ≡ false
+  uses-none Blank d = refl
+  uses-none L1 d = refl
+  uses-none L2 d = refl
+  uses-none L3 d = refl
+  uses-none L4 d = refl
+  uses-none L5 d = refl
+  uses-none L6 d = refl
+  uses-none L7 d = refl
+  uses-none L8 d = refl
+  uses-none L9 d = refl
+  uses-none L10 d = refl
+  uses-none L11 d =
+      answer-there _ (d .below) (rw (d .stands) tt) (omega (arith, c .order, stage-facts n h v g c _ 11 (d .below) (d .stands) .1 .released tt))
+  uses-none L12 d = refl
+  uses-none L13 d = refl
+  uses-none L14 d = refl
+  uses-none L15 d = refl
+  uses-none L16 d = rw (served-asks _ (d .below) (d .stands))
+  uses-none L17 d = refl
+  uses-none L18 d = refl
+  uses-none L19 d = refl
+  uses-none L20 d = refl
+  uses-none L21 d =
+      answer-there _ (d .below) (rw (d .stands) tt) (omega (arith, c .order, stage-facts n h v g c _ 21 (d .below) (d .stands) .1 .past))
+
+  -- at line 14 the served counter is below h, and at line 19 tmpNodeNext is a node
+  pub no-line-out : n ≤ 16 → {v′ : View} {t : ℕ} {request : Request} {answer : Answer} (l : Line) → Does n h v v′ t l request answer
+      → (number l ≡ 1 → v .thread t .begun < v .thread t .count)
+      → takesOut (v .thread t) (v .node (goal v t l)) h (number l) ≡ false
+  no-line-out small {t} l d begins =
+      let th = v .thread t in
+      rw (
+        few (number l) (rw (← d .stands) (c .lines t (d .below))),
+        unless (number l) 1 (leb (th .count) (th .begun)) (λ e. lt-leb _ _ (begins e)),
+        unless (number l) 14 (leb h (th .served)) (λ e. lt-leb _ _ (stage-facts n h v g c t 14 (d .below) (d .stands ∙ ap standsAt e) .1 .1 .room tt)),
+        unless (number l) 19 (isNull (th .tmpnext)) (λ e. ne-eqb (th .tmpnext .0) 255 (λ i.
+            omega (arith, stage-facts n h v g c t 19 (d .below) (d .stands ∙ ap standsAt e) .1 .1 .next, node-bound n h v g c (g .r) (omega arith) (omega (arith, c .order))))),
+        uses-none l d,
+      ) refl
+
+  -- an open call after a line, of a thread that stays
+  module _ (v′ : View) (u : ℕ) (below : u < n) (s : Stays (v .thread u) (v′ .thread u)) (jobs′ : List Request)
+      (job : getD jobs′ (g .at u) (Put 0) ≡ getD jobs (g .at u) (Put 0))
+      (req : v′ .node (v .thread u .cur .0) .req ≡ v .node (v .thread u .cur .0) .req) where
+    call-after : (answers′ : List Answer) (a : ℕ) → (g .at u < a → v′ .node (v .thread u .cur .0) .ret ≡ Answered (getD answers′ (g .at u) Empty))
+        → CallData jobs′ answers′ (openRequest requests v′ u) (g .at u) a (v′ .thread u .line) (v′ .node (v′ .thread u .cur .0))
+    call-after answers′ a ret =
+        let f = now .call u below (s .queued) in
+        rw (s .cur, s .begun) (record { job = job ∙ f .job; asked = λ k. req ∙ f .asked (s .announced k); replied = ret })
+
+    -- where nothing is applied
+    call-kept : v′ .node (v .thread u .cur .0) .ret ≡ v .node (v .thread u .cur .0) .ret
+        → CallData jobs′ answers (openRequest requests v′ u) (g .at u) (g .a) (v′ .thread u .line) (v′ .node (v′ .thread u .cur .0))
+    call-kept ret = call-after answers (g .a) (λ i. ret ∙ now .call u below (s .queued) .replied i)
+
+  -- a line that writes neither req nor ret, after which its thread is out of the queue or stays in it
+  quiet : {v′ : View} {t : ℕ} {l : Line} {request : Request} {answer : Answer} → Does n h v v′ t l request answer
+      → does v t l h request answer .node .req ≡ v .node (goal v t l) .req
+      → does v t l h request answer .node .ret ≡ v .node (goal v t l) .ret
+      → {g′ : Ledger} → g′ .s ≡ g .s → g′ .a ≡ g .a → g′ .at ≡ g .at
+      → (T (queued (stageOf (does v t l h request answer .thread .line))) → Stays (v .thread t) (does v t l h request answer .thread))
+      → Data n requests kind capacity v′ g′ jobs answers ob
+  quiet {v′} d req ret s a at mine =
+      rw (s, a, at) (record {
+        swaps = now .swaps;
+        applied = now .applied;
+        call = λ u below q. call-kept v′ u below (stays-all d mine u q) jobs refl (field-kept d (λ (x : Node). x .req) req _) (field-kept d (λ (x : Node). x .ret) ret _);
+        plain = now .plain;
+        object = now .object;
+      })
+
+  -- line 5 puts the call's request at the last position
+  swap : {v′ : View} {t : ℕ} {answer : Answer} → Does n h v v′ t L5 (openRequest requests v t) answer
+      → Data n requests kind capacity v′ (noted n t (v .thread t .own .0) g L5) (jobs ++ openRequest requests v t ∷ []) answers ob
+  swap {v′} {t} d =
+      let request = openRequest requests v t in
+      let mine = d .below in
+      let swaps = now .swaps in
+      let order = c .order .applied in
+      let first : take (g .a) (jobs ++ request ∷ []) ≡ take (g .a) jobs = take-append-le (g .a) jobs (request ∷ []) (omega arith) in
+      record {
+        swaps = rw length-append (omega arith);
+        applied = now .applied;
+        call = λ u below. rw (upd-other (upd (g .at) t (g .s)) n (suc (g .s)) u (λ e. omega arith)) (by-equal u t
+            (λ e. rw (e, d .mine, upd-same) (λ q. record {
+              job = getD-at jobs request [] (Put 0) (g .s) swaps;
+              asked = λ past. absurd (past refl);
+              replied = λ i. absurd (omega arith);
+            }))
+            (λ other q. rw (upd-other (g .at) t (g .s) u other) (
+            let st = stays-others d u other q in
+            call-kept v′ u below st (jobs ++ request ∷ [])
+            (List·getD-append jobs (request ∷ []) (Put 0) (g .at u) (omega (arith, at-below c u below (st .queued))))
+            (field-kept d (λ (x : Node). x .req) refl _) (field-kept d (λ (x : Node). x .ret) refl _)
+            )));
+        plain = rw first (now .plain);
+        object = rw first (now .object);
+      }
+
+  -- line 6 writes it into the node, which no other thread in the queue has
+  ask : {v′ : View} {t : ℕ} {answer : Answer} → Does n h v v′ t L6 (openRequest requests v t) answer → Data n requests kind capacity v′ g jobs answers ob
+  ask {v′} {t} d =
+      let stood : inQueue v t = rw (d .stands) tt in
+      let f = now .call t (d .below) stood in
+      record {
+        swaps = now .swaps;
+        applied = now .applied;
+        call = λ u below. by-equal u t
+            (λ e. rw (e, d .mine, d .there) (λ q. record { job = f .job; asked = λ _. refl; replied = f .replied }))
+            (λ other q.
+            let st = stays-others d u other q in
+            let same = d .elsewhere (v .thread u .cur .0) (λ e. other (curs-apart c u t below (d .below) (st .queued) stood e)) in
+            call-kept v′ u below st jobs refl (ap (λ (x : Node). x .req) same) (ap (λ (x : Node). x .ret) same));
+        plain = now .plain;
+        object = now .object;
+      }
+
+  -- line 16 answers the request after those applied, as the plain object does
+  serve : {v′ : View} {t : ℕ} {request : Request} → Does n h v v′ t L16 request (appliedBy kind capacity ob v t L16 .answer)
+      → objectInRange kind capacity ob ≡ true → length (ob .items) ≡ 64 → reqInRange kind (v .node (goal v t L16) .req) ≡ true
+      → Data n requests kind capacity v′ (noted n t (v .thread t .own .0) g L16) jobs (answers ++ appliedBy kind capacity ob v t L16 .answer ∷ [])
+      (appliedBy kind capacity ob v t L16 .object)
+  serve {v′} {t} d range long known =
+      let job = getD jobs (g .a) (Put 0) in
+      let answer = appliedBy kind capacity ob v t L16 .answer in
+      let s = serving c t (d .below) (d .stands) in
+      let w = s .who in
+      let asks = served-asks t (d .below) (d .stands) in
+      let more : g .a < length jobs = omega (arith, now .swaps, at-below c _ (w .below) (w .queued), w .at) in
+      let knows-job : knows kind job ≡ true = rw asks at known in
+      let plain = applies-plainly kind capacity ob job long .plain (rw range tt) (rw knows-job tt) in
+      record {
+        swaps = now .swaps;
+        applied = rw length-append (omega (arith, now .applied));
+        call = λ u below q.
+            let st = stays-all d (λ _. stays-itself d tt (omega arith) refl refl) u q in
+            call-after v′ u below st jobs refl (field-kept d (λ (x : Node). x .req) refl _) (answers ++ answer ∷ []) _
+            (λ i. by-equal (g .at u) (g .a)
+            (λ e. rw (node-cur c u below (st .queued) ∙ ap (g .node) e ∙ sym (s .node), d .there, e, getD-at answers answer [] Empty (g .a) (now .applied)))
+            (λ e. rw (
+              d .elsewhere (v .thread u .cur .0) (λ m.
+                  e (ap (g .at) (curs-apart c u _ below (w .below) (st .queued) (w .queued) (m ∙ s .node ∙ sym (w .node))) ∙ w .at)),
+              List·getD-append answers (answer ∷ []) Empty (g .at u) (omega (arith, now .applied)),
+            ) (now .call u below (st .queued) .replied (omega arith))));
+        plain = rw (asks, answers-next kind capacity fresh (g .a) jobs (Put 0) more, ← now .plain, ← now .object, plain);
+        object = rw (asks, after-next kind capacity fresh (g .a) jobs (Put 0) more, ← now .object, plain);
+      }
+
+  -- every line keeps the data invariant
+  pub data-kept : {v′ : View} {t : ℕ} (l : Line) → Does n h v v′ t l (openRequest requests v t) (appliedBy kind capacity ob v t l .answer)
+      → objectInRange kind capacity ob ≡ true → length (ob .items) ≡ 64 → reqInRange kind (v .node (goal v t l) .req) ≡ true
+      → Data n requests kind capacity v′ (noted n t (v .thread t .own .0) g l) (grown (eqb (number l) 5) jobs (openRequest requests v t))
+      (grown (eqb (number l) 16) answers (appliedBy kind capacity ob v t l .answer)) (appliedBy kind capacity ob v t l .object)
+  data-kept Blank d range long known = quiet d refl refl refl refl refl (λ q. absurd (rw (d .stands) at q))
+  data-kept L1 d range long known = quiet d refl refl refl refl refl (λ q. absurd q)
+  data-kept L2 d range long known = quiet d refl refl refl refl refl (λ q. absurd q)
+  data-kept L3 d range long known = quiet d refl refl refl refl refl (λ q. absurd q)
+  data-kept L4 d range long known = quiet d refl refl refl refl refl (λ q. absurd q)
+  data-kept L5 d range long known = swap d
+  data-kept L6 d range long known = ask d
+  data-kept L7 d range long known = quiet d refl refl refl refl refl (λ q. stays-itself d tt (omega arith) refl refl)
+  data-kept L8 d range long known = quiet d refl refl refl refl refl (λ q. stays-itself d tt (omega arith) refl refl)
+  data-kept L9 d range long known = quiet d refl refl refl refl refl (λ q. stays-itself d tt (omega arith) refl refl)
+  data-kept L10 d range long known = quiet d refl refl refl refl refl (λ q. stays-itself d tt (omega arith) refl refl)
+  data-kept L11 d range long known = quiet d refl refl refl refl refl (λ q. absurd q)
+  data-kept L12 d range long known = quiet d refl refl refl refl refl (λ q. stays-itself d tt (omega arith) refl refl)
+  data-kept L13 d range long known = quiet d refl refl refl refl refl (λ q. stays-itself d tt (omega arith) refl refl)
+  data-kept L14 d range long known = quiet d refl refl refl refl refl (λ q. stays-itself d tt (omega arith) refl refl)
+  data-kept L15 d range long known = quiet d refl refl refl refl refl (λ q. stays-itself d tt (omega arith) refl refl)
+  data-kept L16 d range long known = serve d range long known
+  data-kept L17 d range long known = quiet d refl refl refl refl refl (λ q. stays-itself d tt (omega arith) refl refl)
+  data-kept L18 d range long known = quiet d refl refl refl refl refl (λ q. stays-itself d tt (omega arith) refl refl)
+  data-kept L19 d range long known = quiet d refl refl refl refl refl (λ q. stays-itself d tt (omega arith) refl refl)
+  data-kept L20 d range long known = quiet d refl refl refl refl refl (λ q. stays-itself d tt (omega arith) refl refl)
+  data-kept L21 d range long known = quiet d refl refl refl refl refl (λ q. absurd q)
+
+-- the fresh machine: no Swap is done, and no thread is in the queue
+pub data-fresh : (n : ℕ) (requests : ℕ → ℕ → Request) (kind : Kind) (capacity : ℕ) (v : View) → ((u : ℕ) → u < n → v .thread u .line ≡ 0)
+    → Data n requests kind capacity v (freshLedger n) [] [] freshObject
+unfolding answersFrom plainAfter
+data-fresh n requests kind capacity v idle = record {
+  swaps = refl;
+  applied = refl;
+  call = λ u below q. absurd (rw (idle u below) at q);
+  plain = refl;
+  object = refl;
+}

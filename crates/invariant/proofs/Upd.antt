@@ -1,0 +1,63 @@
+-- A function with one value changed, a choice by two numbers, and a test as an equation. Assumes nothing.
+use Prim.Native.Nat.{ℕ, _≤_, _<_}
+use native.Mathlib.Decide.{ℕ-discrete}
+use mathlib.Core.Path.{_≡_, refl, sym, _∙_, subst}
+use mathlib.Core.Bool.{Bool, true, false}
+use lib.Dec.{T, ltb}
+use borrow.Author.Tests.{eq-eqb, ne-eqb, ltb-true, ltb-false}
+use Rattle.invariant.specs.Ledger.{upd}
+
+pub upd-same : {A : Type 0} (f : ℕ → A) (k : ℕ) (x : A) → upd f k x k ≡ x
+unfolding upd
+upd-same f k x = rw (eq-eqb k k refl)
+
+pub upd-other : {A : Type 0} (f : ℕ → A) (k : ℕ) (x : A) (j : ℕ) → (j ≡ k → ⊥) → upd f k x j ≡ f j
+unfolding upd
+upd-other f k x j e = rw (ne-eqb j k e)
+
+-- two numbers are equal or not
+pub by-equal : {P : Type 0} (j k : ℕ) → (j ≡ k → P) → ((j ≡ k → ⊥) → P) → P
+by-equal {P} j k same other = go (ℕ-discrete j k)
+  where
+    go : Dec (j ≡ k) → P
+    go (yes e) = same e
+    go (no e) = other e
+
+pub by-order : {P : Type 0} (j k : ℕ) → (j < k → P) → (k ≤ j → P) → P
+by-order {P} j k under over = go (ltb j k) refl
+  where
+    go : (b : Bool) → ltb j k ≡ b → P
+    go true e = under (ltb-true j k e)
+    go false e = over (ltb-false j k e)
+
+pub is-true : (b : Bool) → T b → b ≡ true
+is-true true x = refl
+is-true false x = absurd x
+
+-- two numbers exchanged
+unfoldable pub exchange : ℕ → ℕ → ℕ → ℕ
+exchange j k = upd (upd (λ u. u) j k) k j
+
+-- what holds at j, at k and elsewhere holds everywhere
+pub by-two : (P : ℕ → Type 0) (j k : ℕ) → P j → P k → ((u : ℕ) → (u ≡ j → ⊥) → (u ≡ k → ⊥) → P u) → (u : ℕ) → P u
+by-two P j k first second other u = by-equal u j (λ e. subst P (sym e) first) (λ e. by-equal u k (λ z. subst P (sym z) second) (other u e))
+
+module _ (j k : ℕ) (e : j ≡ k → ⊥) where
+  pub exchange-first : exchange j k j ≡ k
+  unfolding exchange
+  exchange-first = upd-other _ k j j e ∙ upd-same _ j k
+
+  pub exchange-second : exchange j k k ≡ j
+  unfolding exchange
+  exchange-second = upd-same _ k j
+
+  pub exchange-other : (u : ℕ) → (u ≡ j → ⊥) → (u ≡ k → ⊥) → exchange j k u ≡ u
+  unfolding exchange
+  exchange-other u x y = upd-other _ k j u y ∙ upd-other _ j k u x
+
+  pub exchange-twice : (u : ℕ) → exchange j k (exchange j k u) ≡ u
+  exchange-twice =
+      by-two (λ u. exchange j k (exchange j k u) ≡ u) j k
+      (rw exchange-first exchange-second)
+      (rw exchange-second exchange-first)
+      (λ u x y. rw (exchange-other u x y) (exchange-other u x y))

@@ -1,0 +1,6 @@
+pub mod Control
+pub mod Data
+pub mod Ledger
+pub mod Remote
+pub mod Stages
+pub mod View
