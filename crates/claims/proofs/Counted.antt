@@ -1,0 +1,117 @@
+-- The counts of the state are those of its entries, and they and every call's remote references fit in 32 bits. Assumes nothing.
+use Prim.Native.Nat.{ℕ, _*_, _≤_, _<_, _^_}
+use native.Mathlib.Omega.{arith}
+use native.Mathlib.Nat.{add-comm}
+use mathlib.Core.Path.{_≡_, refl, sym, ap, _∙_}
+use mathlib.Core.Bool.{Bool, true, false, cond, not}
+use mathlib.Core.List.{List, [], _∷_}
+use lib.ListN.{length, length-append}
+use Rattle.bench_file.specs.Bytes.{Each}
+use Rattle.machine.specs.declared.NodeId.{NodeId}
+use Rattle.machine.specs.declared.ThreadId.{ThreadId}
+use Rattle.machine.specs.declared.SharedAccess.{SharedAccess}
+use Rattle.machine.specs.declared.SharedAccess.the-variants.{NoAccess, Read, Write, Swap}
+use Rattle.machine.specs.Lines.{Access, accessTo}
+use Rattle.copies.specs.Remote.{located, holds, copiesAfter, referred}
+use Rattle.state.specs.declared.Counts.{Counts}
+use Rattle.state.specs.declared.State.{State}
+use Rattle.state.specs.Range.{countsInRange}
+use Rattle.state.proofs.RangeFacts.{counts-iff}
+use Rattle.step.specs.Entry.{oneIf, moreOf, plus, line, row, target, node, accesses, references, countsAfter, entered}
+use Rattle.claims.specs.Entries.{Entry, remoteOnes, entryOf, sumOver}
+use Rattle.claims.specs.Claims.{Call, remoteIn, runs, isOf, costOf, countsOf}
+
+at-most-one : (test : Bool) → oneIf test ≤ 1
+at-most-one true = omega arith
+at-most-one false = omega arith
+
+-- the remote accesses of an entry are as many as the state counts
+one-remote : (has : Bool) → oneIf (not has) ≡ cond has 0 1
+one-remote true = refl
+one-remote false = refl
+
+module _ (n t : ℕ) where
+  pub remote-ones : (copies : List ℕ) (accesses : List Access) → remoteIn (remoteOnes n t copies accesses) ≡ referred n t copies accesses .remote
+  remote-ones copies [] = refl
+  remote-ones copies (a ∷ accesses) =
+      omega (arith, one-remote (holds copies t (located a)), remote-ones (copiesAfter n t a copies) accesses)
+
+  -- and no more than its accesses
+  remote-most : (copies : List ℕ) (accesses : List Access) → remoteIn (remoteOnes n t copies accesses) ≤ length accesses
+  remote-most copies [] = omega arith
+  remote-most copies (a ∷ accesses) =
+      omega (arith, at-most-one (not (holds copies t (located a))), remote-most (copiesAfter n t a copies) accesses)
+
+one-access : (m : NodeId) (access : SharedAccess) → length (accessTo m access) ≤ 1
+one-access m NoAccess = omega arith
+one-access m (Read field) = omega arith
+one-access m (Write field) = omega arith
+one-access m Swap = omega arith
+
+-- an entry makes at most two remote references
+abbrev pub Few : Entry → Type 0
+Few e = remoteIn (e .remote) ≤ 2
+
+pub entry-few : (s : State) (t : ThreadId) → Few (entryOf s t)
+entry-few s t =
+    let one = one-access (target s t) (row s t .first) in
+    let two = one-access (target s t) (row s t .second) in
+    let all : length (accesses s t) ≤ 2 = rw length-append (omega arith) in
+    omega (arith, remote-most (s .n) (t .0) (s .copies) (accesses s t))
+
+plus-comm : (c d : Counts) → plus c d ≡ plus d c
+plus-comm c d = rw (add-comm (c .records), add-comm (c .turns), add-comm (c .blanks), add-comm (c .spins), add-comm (c .remote))
+
+-- what the counts are after the entries of a run, the latest first
+pub record Counted (s : State) (past : List Entry) : Type 0 where
+  pub counts : s .counts ≡ countsOf past
+  pub few : Each Few past
+
+pub counted-next : (s : State) (past : List Entry) (t : ThreadId) → Counted s past → Counted (entered s t) (entryOf s t ∷ past)
+counted-next s past t c = record {
+  counts =
+      ap (λ (c : Counts). plus c (moreOf (line s t) (node s t .wait) (references s t .remote))) (c .counts)
+      ∙ plus-comm (countsOf past) _
+      ∙ ap (λ (remote : ℕ). plus (moreOf (line s t) (node s t .wait) remote) (countsOf past)) (sym (remote-ones (s .n) (t .0) (s .copies) (accesses s t)));
+  few = (entry-few s t, c .few);
+}
+
+-- a number that is at most 2 at each entry
+sum-most : (number : Entry → List Entry → ℕ) → ((e : Entry) (past : List Entry) → Few e → number e past ≤ 2)
+    → (run : List Entry) → Each Few run → sumOver number run ≤ 2 * length run
+sum-most number small [] few = omega arith
+sum-most number small (e ∷ past) few = omega (arith, small e past (few .0), sum-most number small past (few .1))
+
+-- and of a test at most as many as there are entries
+pub tests-few : (test : Entry → Bool) (run : List Entry) → sumOver (λ e past. oneIf (test e)) run ≤ length run
+tests-few test [] = omega arith
+tests-few test (e ∷ past) = omega (arith, at-most-one (test e), tests-few test past)
+
+module _ (run : List Entry) (few : Each Few run) (short : length run ≤ 32768) where
+  fits : (number : Entry → List Entry → ℕ) → ((e : Entry) (past : List Entry) → Few e → number e past ≤ 2) → sumOver number run < 2 ^ 32
+  fits number small = omega (arith, sum-most number small run few)
+
+  tests-fit : (test : Entry → Bool) → sumOver (λ e past. oneIf (test e)) run < 2 ^ 32
+  tests-fit test = fits (λ e past. oneIf (test e)) (λ e past few. omega (arith, at-most-one (test e)))
+
+  pub counts-fit : countsInRange (countsOf run) ≡ true
+  counts-fit = counts-iff (countsOf run) .1 (record {
+    records = tests-fit (runs 5);
+    turns = tests-fit (runs 12);
+    blanks = tests-fit (runs 0);
+    spins = tests-fit (λ e. e .spins);
+    remote = fits (λ e past. remoteIn (e .remote)) (λ e past few. few);
+  })
+
+  pub cost-fits : (c : Call) → costOf c run < 2 ^ 32
+  cost-fits c = fits (λ e past. cond (isOf c e past) (remoteIn (e .remote)) 0) (λ e past few. by-test (isOf c e past) few)
+    where
+      by-test : {k : ℕ} (test : Bool) → k ≤ 2 → cond test k 0 ≤ 2
+      by-test true h = h
+      by-test false h = omega arith
+
+-- so an entry after fewer than 32,768 leaves the counts in range
+pub next-fits : (s : State) (past : List Entry) (t : ThreadId) → Counted s past → length past < 32768 → countsInRange (countsAfter s t) ≡ true
+next-fits s past t c short =
+    let next = counted-next s past t c in
+    ap countsInRange (next .counts) ∙ counts-fit (entryOf s t ∷ past) (next .few) (omega arith)

@@ -1,0 +1,13 @@
+-- The marked runs of document 01: each file is judged from its bytes and run, by computation. Assumes nothing.
+use mathlib.Core.Path.{_≡_, refl}
+use mathlib.Core.List.{map}
+use Rattle.bench_file.specs.Reading.{field, littleEndian, byte, ruledByte, several, end}
+use Rattle.bench_file.specs.Layout.{startReader, limitsReader, headReader, requestReader, rowReader, scheduleReader, fileReader, judgeOf}
+use Rattle.bench_file.specs.Bytes.{lowFirst, eachBytes, bytesOf}
+use Rattle.bench_file.specs.Examples.{sixtyFour}
+use Rattle.claims.specs.Entries.{entriesFrom}
+use Rattle.claims.specs.Marked.{Marked, resultOf, markedRuns}
+
+pub marked-runs : map (λ (m : Marked). resultOf (m .file)) markedRuns ≡ map (λ (m : Marked). m .result) markedRuns
+unfolding judgeOf fileReader headReader startReader limitsReader rowReader requestReader scheduleReader ruledByte byte several field littleEndian end lowFirst eachBytes bytesOf sixtyFour entriesFrom markedRuns
+marked-runs = refl

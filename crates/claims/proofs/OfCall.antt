@@ -1,0 +1,62 @@
+-- Which call an entry is of, and what an entry of another call leaves as it was. Assumes nothing.
+use Prim.Native.Nat.{ℕ, _+_}
+use native.Mathlib.Nat.{zero-add}
+use native.Mathlib.Omega.{arith}
+use mathlib.Core.Path.{_≡_, refl, sym, ap, ap₂, _∙_}
+use mathlib.Core.Bool.{Bool, true, false, cond, not, _&&_, _||_, and-false, and-eq-true-iff}
+use mathlib.Core.List.{List, _∷_}
+use lib.Dec.{eqb}
+use borrow.Author.Tests.{eq-eqb, ne-eqb, eqb-true}
+use Rattle.claims.specs.Entries.{Entry}
+use Rattle.claims.specs.Claims.{Call, callOf, same, isOf, runs, turnOfCall, remoteIn, howMany, costOf, returned, combined, returns}
+
+abbrev call : ℕ → ℕ → Call
+call t q = record { thread = t; request = q }
+
+pub same-itself : (c : Call) → same c c ≡ true
+same-itself c = rw (eq-eqb (c .thread) (c .thread) refl, eq-eqb (c .request) (c .request) refl)
+
+pub same-told : (c c′ : Call) → same c c′ ≡ true → c ≡ c′
+same-told c c′ e =
+    let p = and-eq-true-iff (eqb (c .thread) (c′ .thread)) (eqb (c .request) (c′ .request)) .0 e in
+    ap₂ call (eqb-true _ _ (p .0)) (eqb-true _ _ (p .1))
+
+-- a test that cannot pass fails
+pub fails : (b : Bool) → (b ≡ true → ⊥) → b ≡ false
+fails true f = absurd (f refl)
+fails false f = refl
+
+pub not-same : (c c′ : Call) → (c ≡ c′ → ⊥) → same c c′ ≡ false
+not-same c c′ f = fails (same c c′) (λ e. f (same-told c c′ e))
+
+module _ (e : Entry) (past : List Entry) where
+  pub blank-of-none : (c : Call) → e .line ≡ 0 → isOf c e past ≡ false
+  blank-of-none c z = rw (eq-eqb (e .line) 0 z)
+
+  pub not-of : (c : Call) → (c ≡ callOf e past → ⊥) → isOf c e past ≡ false
+  not-of c f = rw (not-same c (callOf e past) f) (and-false (not (runs 0 e)))
+
+  pub is-of : (e .line ≡ 0 → ⊥) → isOf (callOf e past) e past ≡ true
+  is-of z = rw (ne-eqb (e .line) 0 z, same-itself (callOf e past))
+
+  -- what an entry of another call leaves
+  pub record Left (c : Call) : Type 0 where
+    pub cost : costOf c (e ∷ past) ≡ costOf c past
+    pub returned : returned c (e ∷ past) ≡ returned c past
+    pub combined : combined c (e ∷ past) ≡ combined c past
+    pub turn : turnOfCall c (e ∷ past) ≡ turnOfCall c past
+    pub returns : returns c (e ∷ past) ≡ returns c past
+
+  pub left : (c : Call) → isOf c e past ≡ false → Left c
+  left c p = record { cost = rw p (zero-add (costOf c past)); returned = rw p; combined = rw p; turn = rw p; returns = rw p }
+
+  -- and what an entry of the call adds
+  pub record Added (c : Call) : Type 0 where
+    pub cost : costOf c (e ∷ past) ≡ remoteIn (e .remote) + costOf c past
+    pub returned : returned c (e ∷ past) ≡ (runs 11 e || runs 21 e || returned c past)
+    pub combined : combined c (e ∷ past) ≡ (runs 12 e || combined c past)
+    pub turn : turnOfCall c (e ∷ past) ≡ cond (runs 12 e) (howMany 12 past) (turnOfCall c past)
+    pub returns : returns c (e ∷ past) ≡ cond (runs 11 e || runs 21 e) (e .ret) (returns c past)
+
+  pub added : (c : Call) → isOf c e past ≡ true → Added c
+  added c p = record { cost = rw p; returned = rw p; combined = rw p; turn = rw p; returns = rw p }

@@ -1,0 +1,166 @@
+-- The fresh machine of a file: its threads, its requests, that it is sound, and that it is fresh in the invariant's sense. Assumes fields in range.
+use Prim.Native.Nat.{ℕ, zero, suc, _+_, _*_, _≤_, _<_}
+use native.Mathlib.Omega.{arith}
+use native.Mathlib.Nat.{zero-add, add-zero}
+use mathlib.Core.Path.{_≡_, refl, ap, _∙_}
+use mathlib.Core.Bool.{Bool, true, or-true}
+use mathlib.Core.List.{List, [], _∷_, _++_, map}
+use lib.Dec.{leb, leb·zero}
+use lib.ListN.{length, getD, take, drop, replicate, length-append, length-replicate, getD-replicate, length-map, List·getD-append, List·getD-map}
+use lib.Seq.{getD-drop, getD-append-add}
+use Rattle.object.specs.declared.Kind.{Kind}
+use Rattle.object.specs.declared.Request.{Request}
+use Rattle.object.specs.declared.Request.the-variants.{Put}
+use Rattle.bench_file.specs.Layout.{Fields}
+use Rattle.bench_file.specs.Bytes.{Each, RequestInRange, RowInRange, InRange}
+use Rattle.bench_file.proofs.Codec.{within-range}
+use Rattle.bench_file.proofs.RoundTrip.{capacity-range, request-known}
+use Rattle.machine.specs.declared.Thread.{Thread}
+use Rattle.state.specs.declared.Slot.{Slot}
+use Rattle.state.specs.Range.{every, slotInRange, rowOfThread, rowsInRange, threadInRange, nodeInRange}
+use Rattle.state.specs.Shape.{Shaped}
+use Rattle.state.specs.Fresh.{freshThread, freshThreads, freshNode}
+use Rattle.state.proofs.RangeFacts.{NodeOrNull, nowhere, thread-iff}
+use Rattle.step.specs.Entry.{zeroSlot, zeroThread, zeroNode}
+use Rattle.step.proofs.Soundness.{Sound}
+use Rattle.invariant.specs.View.{viewOf}
+use Rattle.invariant.proofs.Start.{Fresh}
+use Rattle.claims.specs.Entries.{filled, slotsOf, rowsOf, startOf}
+use Rattle.claims.specs.Claims.{requestOf}
+
+-- a list filled up: its length, and what stands at each place
+module _ {A : Type 0} (a : A) where
+  length-filled : (k : ℕ) (l : List A) → length l ≤ k → length (filled k a l) ≡ k
+  length-filled k l h = rw (length-append, length-replicate) (omega arith)
+
+  padded : (m i : ℕ) → getD (replicate m a) i a ≡ a
+  padded zero i = refl
+  padded (suc m) zero = refl
+  padded (suc m) (suc i) = padded m i
+
+  filled-at : (m : ℕ) (l : List A) (i : ℕ) → getD (l ++ replicate m a) i a ≡ getD l i a
+  filled-at m [] i = padded m i
+  filled-at m (x ∷ l) zero = refl
+  filled-at m (x ∷ l) (suc i) = filled-at m l i
+
+-- a test that holds at each of the first n places holds of the first n
+every-first : {A : Type 0} (p : A → Bool) (d : A) (n : ℕ) (l : List A) → ((i : ℕ) → i < n → p (getD l i d) ≡ true) → every p (take n l) ≡ true
+every-first p d zero l f = refl
+every-first p d (suc n) [] f = refl
+every-first p d (suc n) (x ∷ l) f = rw (f 0 (omega arith)) (every-first p d n l (λ i h. f (suc i) (omega arith)))
+
+rows-first : (kind : Kind) (requests : List Slot) (d : Thread) (i n : ℕ) (ths : List Thread)
+    → ((k : ℕ) → k < n → every (slotInRange kind) (rowOfThread requests (i + k) (getD ths k d .count)) ≡ true)
+    → rowsInRange kind requests i (take n ths) ≡ true
+rows-first kind requests d i zero ths f = refl
+rows-first kind requests d i (suc n) [] f = refl
+rows-first kind requests d i (suc n) (th ∷ ths) f =
+    let next : (k : ℕ) → i + suc k ≡ i + 1 + k = λ k. omega arith in
+    rw (rw add-zero at (f 0 (omega arith)))
+    (rows-first kind requests d (i + 1) n ths (λ k h. rw (← next k) (f (suc k) (omega arith))))
+
+each-getD : {A : Type 0} (P : A → Type 0) (l : List A) (i : ℕ) (d : A) → Each P l → i < length l → P (getD l i d)
+each-getD P [] i d e h = absurd (omega arith)
+each-getD P (x ∷ l) zero d e h = e .0
+each-getD P (x ∷ l) (suc i) d e h = each-getD P l i d (e .1) (omega arith)
+
+-- the fresh threads
+length-fresh : (i : ℕ) (counts : List ℕ) → length (freshThreads i counts) ≡ length counts
+length-fresh i [] = refl
+length-fresh i (c ∷ counts) = ap suc (length-fresh (i + 1) counts)
+
+fresh-at : (i : ℕ) (counts : List ℕ) (u : ℕ) (d : Thread) → u < length counts → getD (freshThreads i counts) u d ≡ freshThread (i + u) (getD counts u 0)
+fresh-at i [] u d h = absurd (omega arith)
+fresh-at i (c ∷ counts) zero d h = rw add-zero
+fresh-at i (c ∷ counts) (suc u) d h = let next : i + 1 + u ≡ i + suc u = omega arith in rw (← next) (fresh-at (i + 1) counts u d (omega arith))
+
+abbrev slotOf : Request → Slot
+slotOf request = record { request = request }
+
+-- the rows one after the other, 16 places each
+length-row : (row : List Request) → length row ≤ 16 → length (slotsOf row) ≡ 16
+length-row row h = length-filled zeroSlot 16 (map slotOf row) (rw length-map h)
+
+length-rows : (kind : Kind) (rows : List (List Request)) → Each (RowInRange kind) rows → length (rowsOf rows) ≡ 16 * length rows
+length-rows kind [] e = refl
+length-rows kind (row ∷ rows) e = rw (length-append, length-row row (e .0 .count), length-rows kind rows (e .1)) (omega arith)
+
+slot-at : (kind : Kind) (rows : List (List Request)) (t q : ℕ) → Each (RowInRange kind) rows → q < 16
+    → getD (rowsOf rows) (16 * t + q) zeroSlot .request ≡ getD (getD rows t []) q (Put 0)
+slot-at kind [] t q e h = refl
+slot-at kind (row ∷ rows) zero q e h =
+    rw zero-add
+    (ap (λ (x : Slot). x .request)
+    (List·getD-append (slotsOf row) (rowsOf rows) zeroSlot q (rw (length-row row (e .0 .count)) h)
+    ∙ rw filled-at (List·getD-map slotOf row q (Put 0))))
+slot-at kind (row ∷ rows) (suc t) q e h =
+    let next : 16 * suc t + q ≡ length (slotsOf row) + (16 * t + q) = omega (arith, length-row row (e .0 .count)) in
+    rw (next, getD-append-add) (slot-at kind rows t q (e .1) h)
+
+module _ (f : Fields) (fits : InRange f) where
+  -- the requests of thread t's row, and past its end the request of an empty place
+  pub requests-start : (t q : ℕ) → q < 16 → getD (startOf f .requests) (16 * t + q) zeroSlot .request ≡ requestOf f (record { thread = t; request = q })
+  requests-start t q h = rw filled-at (slot-at (f .head .object) (f .rows) t q (fits .rows) h)
+
+  few : length (map length (f .rows)) ≤ 16
+  few = rw length-map (omega (arith, fits .threads, fits .head .n))
+
+  pub thread-start : (u : ℕ) → u < 16 → getD (startOf f .threads) u zeroThread ≡ freshThread u (length (getD (f .rows) u []))
+  thread-start u h =
+      fresh-at 0 (filled 16 0 (map length (f .rows))) u zeroThread (rw (length-filled 0 16 (map length (f .rows)) few) h)
+      ∙ rw (zero-add, filled-at) (ap (freshThread u) (List·getD-map length (f .rows) u []))
+
+  pub node-start : (m : ℕ) → m < 17 → getD (startOf f .nodes) m zeroNode ≡ freshNode
+  node-start m h = getD-replicate 17 m freshNode zeroNode h
+
+  pub copies-start : (l : ℕ) → getD (startOf f .copies) l 0 ≡ 0
+  copies-start l = padded 0 86 l
+
+  pub fresh-start : Fresh (f .head .n) (viewOf (startOf f))
+  fresh-start = record {
+    line = λ u h. rw (thread-start u (omega (arith, fits .head .n)));
+    own = λ u h. rw (thread-start u (omega (arith, fits .head .n)));
+    tail = refl;
+    node = refl;
+  }
+
+  shaped-start : Shaped (startOf f)
+  shaped-start = record {
+    threads = length-fresh 0 (filled 16 0 (map length (f .rows))) ∙ length-filled 0 16 (map length (f .rows)) few;
+    nodes = refl;
+    requests = length-filled zeroSlot 256 (rowsOf (f .rows)) (rw (length-rows (f .head .object) (f .rows) (fits .rows)) (omega (arith, fits .threads, fits .head .n)));
+    copies = refl;
+    items = refl;
+  }
+
+  row-fits : (t : ℕ) → t < f .head .n → RowInRange (f .head .object) (getD (f .rows) t [])
+  row-fits t h = each-getD (RowInRange (f .head .object)) (f .rows) t [] (fits .rows) (omega (arith, fits .threads))
+
+  -- every thread, every node and every row of requests is in range
+  threads-fit : every (threadInRange (f .head .n) (f .head .h)) (take (f .head .n) (startOf f .threads)) ≡ true
+  threads-fit =
+      every-first (threadInRange (f .head .n) (f .head .h)) zeroThread (f .head .n) (startOf f .threads) (λ u h.
+      rw (thread-start u (omega (arith, fits .head .n)))
+      (let null : NodeOrNull (f .head .n) 255 = nowhere refl in
+      thread-iff (f .head .n) (f .head .h) (freshThread u (length (getD (f .rows) u []))) .1 (search (arith, row-fits u h))))
+
+  nodes-fit : every (nodeInRange (f .head .object) (f .head .n)) (take (f .head .n + 1) (startOf f .nodes)) ≡ true
+  nodes-fit =
+      every-first (nodeInRange (f .head .object) (f .head .n)) zeroNode (f .head .n + 1) (startOf f .nodes) (λ m h.
+      rw (node-start m (omega (arith, fits .head .n))) (or-true (leb 255 (f .head .n))))
+
+  rows-fit : rowsInRange (f .head .object) (startOf f .requests) 0 (take (f .head .n) (startOf f .threads)) ≡ true
+  rows-fit =
+      rows-first (f .head .object) (startOf f .requests) zeroThread 0 (f .head .n) (startOf f .threads) (λ t h.
+      rw (zero-add, thread-start t (omega (arith, fits .head .n)))
+      (every-first (slotInRange (f .head .object)) zeroSlot (length (getD (f .rows) t [])) (drop (16 * t) (startOf f .requests)) (λ q k.
+      rw (getD-drop, requests-start t q (omega (arith, row-fits t h .count)))
+      (request-known (f .head .object) _ (each-getD (RequestInRange (f .head .object)) (getD (f .rows) t []) q (Put 0) (row-fits t h .requests) k)))))
+
+  pub sound-start : Sound (startOf f)
+  sound-start = record {
+    shape = shaped-start;
+    range =
+        let capacity = within-range _ _ _ .1 (capacity-range (f .head .object) (f .head .capacity) .1 (fits .head .capacity)) in
+        rw (within-range 1 (f .head .n) 16 .1 (fits .head .n), within-range 1 (f .head .h) 255 .1 (fits .head .h), capacity, leb·zero (f .head .capacity), leb·zero (f .head .n), threads-fit, nodes-fit, rows-fit);
+  }

@@ -1,0 +1,64 @@
+-- Demand 3, for every file and every cut of its schedule. Assumes nothing.
+use Prim.Native.Nat.{ℕ, _<_}
+use native.Mathlib.Omega.{arith}
+use mathlib.Core.Path.{_≡_, refl, ap, _∙_}
+use mathlib.Core.List.{List, [], reverse}
+use lib.ListN.{length, getD, take}
+use Rattle.machine.specs.declared.Thread.{Thread}
+use Rattle.bench_file.specs.Layout.{Fields, accepted, judgeOf}
+use Rattle.bench_file.specs.Bytes.{Each, Byte, InRange}
+use Rattle.bench_file.proofs.RoundTrip.{accepted-in-range}
+use Rattle.invariant.specs.Ledger.{freshLedger}
+use Rattle.invariant.specs.View.{viewOf}
+use Rattle.invariant.proofs.Data.{data-fresh}
+use Rattle.invariant.proofs.Remote.{remote-fresh}
+use Rattle.invariant.proofs.Start.{control-fresh}
+use Rattle.claims.specs.Entries.{startOf, stateAfter, entriesOf}
+use Rattle.claims.specs.Claims.{Demand3Of}
+use Rattle.claims.proofs.Calls.{calls-fresh}
+use Rattle.claims.proofs.CopiesSaid.{copies-fresh}
+use Rattle.claims.proofs.Cut.{stopped, cut-in-range}
+use Rattle.claims.proofs.Holding.{holds}
+use Rattle.claims.proofs.Layers.{Layers, asks, stays, layers-next}
+use Rattle.claims.proofs.Run.{run-keeps, run-steps}
+use Rattle.claims.proofs.Start.{fresh-start, thread-start}
+use Rattle.claims.proofs.Swaps.{swaps-fresh}
+use Rattle.claims.proofs.Turns.{turns-fresh}
+
+module _ (f : Fields) (fits : InRange f) where
+  -- the fresh machine has the invariant
+  layers-start : Layers f (startOf f) []
+  layers-start =
+      let n = f .head .n in
+      let v = viewOf (startOf f) in
+      let fresh = fresh-start f fits in
+      record {
+        ledger = freshLedger n;
+        cost = λ u. 0;
+        control = control-fresh n (f .head .h) v fresh;
+        remote = remote-fresh (fresh .line);
+        object = data-fresh n (asks f) (f .head .object) (f .head .capacity) v (fresh .line);
+        swaps = swaps-fresh n v (fresh .line) (λ u b. ap (λ (th : Thread). th .begun) (thread-start f fits u (omega (arith, fits .head .n))));
+        turns = turns-fresh n (f .head .h) v (fresh .line);
+        calls = calls-fresh n v (λ u. 0) (fresh .line);
+        copies = copies-fresh n;
+        said = tt;
+        rows = λ u b. ap (λ (th : Thread). th .count) (thread-start f fits u (omega (arith, fits .head .n)));
+        asked = refl;
+        by-combiner = refl;
+      }
+
+  pub demand-3 : Demand3Of f
+  demand-3 j =
+      let kept = run-keeps f fits (Layers f) layers-start (stays f fits) (layers-next f fits) j in
+      record {
+        holds = holds f _ _ (kept .0) (kept .1);
+        steps = run-steps f fits (Layers f) layers-start (stays f fits) (layers-next f fits) j;
+        counts = kept .0 .counted .counts;
+        stopped = ap reverse (stopped f j);
+        cut-file = cut-in-range f j fits;
+      }
+
+-- the same from a file's bytes
+pub demand-3-of-files : (bytes : List ℕ) (f : Fields) → Each Byte bytes → judgeOf bytes ≡ accepted f → Demand3Of f
+demand-3-of-files bytes f each judged = demand-3 f (accepted-in-range bytes f each judged)

@@ -1,0 +1,108 @@
+-- The marked runs of document 01, 'Runs that touch a bound': the bytes of each file, and the whole result that they give.
+use Prim.Native.Nat.{ℕ}
+use mathlib.Core.List.{List, [], _∷_, _++_, reverse}
+use lib.ListN.{replicate}
+use Rattle.object.specs.declared.Kind.{Kind}
+use Rattle.object.specs.declared.Kind.the-variants.{Queue, Stack, Counter}
+use Rattle.object.specs.declared.Request.{Request}
+use Rattle.object.specs.declared.Request.the-variants.{Put, Take, Add}
+use Rattle.bench_file.specs.Layout.{Judgement, accepted, refusedBy, judgeOf}
+use Rattle.bench_file.specs.Bytes.{lowFirst, bytesOf}
+use Rattle.bench_file.specs.Examples.{sixtyFour}
+use Rattle.state.specs.declared.Counts.{Counts}
+use Rattle.claims.specs.Entries.{entriesOf}
+use Rattle.claims.specs.Claims.{recordsOf, countsOf}
+
+-- the result of a file: its refusal, 0 for none; the five counts; the records, 16 bytes each, in Swap order
+pub record Result : Type 0 where
+  pub refusal : ℕ
+  pub counts : Counts
+  pub records : List (List ℕ)
+
+-- records, turns, blanks, spins and remote references
+abbrev pub counted : ℕ → ℕ → ℕ → ℕ → ℕ → Counts
+counted records turns blanks spins remote = record { records = records; turns = turns; blanks = blanks; spins = spins; remote = remote }
+
+-- a file that is accepted is run; a refusal has its number, with all counts 0 and no record
+abbrev pub ranIf : Judgement → Result
+ranIf (accepted f) = let run = reverse (entriesOf f) in record { refusal = 0; counts = countsOf run; records = recordsOf run }
+ranIf (refusedBy number) = record { refusal = number; counts = counted 0 0 0 0 0; records = [] }
+
+abbrev pub resultOf : List ℕ → Result
+resultOf bytes = ranIf (judgeOf bytes)
+
+-- the listing's words for a mark and for byte 12
+abbrev pub done : ℕ
+done = 0
+
+abbrev pub value : ℕ
+value = 1
+
+abbrev pub empty : ℕ
+empty = 2
+
+abbrev pub full : ℕ
+full = 3
+
+abbrev pub none : ℕ
+none = 255
+
+abbrev pub stillOpen : ℕ
+stillOpen = 0
+
+abbrev pub returned : ℕ
+returned = 1
+
+-- a record's 16 bytes, from thread, request, mark, value, serving thread, turn, remote references and byte 12: the order of the listing. Where it
+-- prints a hyphen the value is 0, the serving thread 255 and the turn 65,535
+abbrev pub row : ℕ → ℕ → ℕ → ℕ → ℕ → ℕ → ℕ → ℕ → List ℕ
+row thread request mark value server turn remote ended =
+    thread ∷ request ∷ mark ∷ server ∷ lowFirst 4 value ++ lowFirst 4 remote ++ ended ∷ lowFirst 2 turn ++ 0 ∷ []
+
+-- the bytes of a file, and its result
+pub record Marked : Type 0 where
+  pub file : List ℕ
+  pub result : Result
+
+abbrev pub gives : List ℕ → Counts → List (List ℕ) → Marked
+gives file counts records = record { file = file; result = record { refusal = 0; counts = counts; records = records } }
+
+-- the file of an object, n, h and a capacity, of rows of requests and a schedule
+abbrev pub fileOf : Kind → ℕ → ℕ → ℕ → List (List Request) → List ℕ → List ℕ
+fileOf object n h capacity rows schedule =
+    bytesOf (record { head = record { object = object; n = n; h = h; capacity = capacity }; rows = rows; schedule = schedule })
+
+-- n = 1 and h = 1: requests of thread 0, and so many entries
+abbrev pub alone : Kind → ℕ → List Request → ℕ → List ℕ
+alone object capacity requests entries = fileOf object 1 1 capacity (requests ∷ []) (replicate entries 0)
+
+-- the 64-byte file with so many entries in place of its 42
+abbrev pub twoAdds : ℕ → List ℕ
+twoAdds entries = alone Counter 0 (Add 5 ∷ Add 7 ∷ []) entries
+
+-- queue, capacity 4, n = 2; thread 0 puts 7, thread 1 takes. Entries 0 eight times, 1 nine times, then 0 and 1 so many times
+abbrev pub putAndTake : ℕ → ℕ → ℕ → List ℕ
+putAndTake h zeros ones =
+    fileOf Queue 2 h 4 ((Put 7 ∷ []) ∷ (Take ∷ []) ∷ []) (replicate 8 0 ++ replicate 9 1 ++ replicate zeros 0 ++ replicate ones 1)
+
+-- in the order of document 01; the values of the third add and of the two puts and the stack's capacity are free there
+unfoldable pub markedRuns : List Marked
+markedRuns =
+    gives sixtyFour (counted 2 2 0 0 11) (row 0 0 value 0 0 0 9 returned ∷ row 0 1 value 5 0 1 2 returned ∷ [])
+    -- a third add
+    ∷ gives (alone Counter 0 (Add 5 ∷ Add 7 ∷ Add 9 ∷ []) 63) (counted 3 3 0 0 11)
+    (row 0 0 value 0 0 0 9 returned ∷ row 0 1 value 5 0 1 2 returned ∷ row 0 2 value 12 0 2 0 returned ∷ [])
+    -- 4, 5 and 43 entries
+    ∷ gives (twoAdds 4) (counted 0 0 0 0 3) []
+    ∷ gives (twoAdds 5) (counted 1 0 0 0 4) (row 0 0 none 0 255 65535 4 stillOpen ∷ [])
+    ∷ gives (twoAdds 43) (counted 2 2 1 0 11) (row 0 0 value 0 0 0 9 returned ∷ row 0 1 value 5 0 1 2 returned ∷ [])
+    -- two threads, h = 8 and h = 1
+    ∷ gives (putAndTake 8 20 3) (counted 2 1 0 1 24) (row 0 0 done 0 0 0 14 returned ∷ row 1 0 value 7 0 0 10 returned ∷ [])
+    ∷ gives (putAndTake 1 13 13) (counted 2 2 0 1 20) (row 0 0 done 0 0 0 10 returned ∷ row 1 0 value 7 1 1 10 returned ∷ [])
+    -- full and empty
+    ∷ gives (alone Queue 1 (Put 1 ∷ Put 2 ∷ []) 42) (counted 2 2 0 0 11) (row 0 0 done 0 0 0 9 returned ∷ row 0 1 full 0 0 1 2 returned ∷ [])
+    ∷ gives (alone Stack 1 (Take ∷ []) 21) (counted 1 1 0 0 9) (row 0 0 empty 0 0 0 9 returned ∷ [])
+    -- the sum past 4,294,967,295
+    ∷ gives (alone Counter 0 (Add 4_294_967_295 ∷ Add 1 ∷ Add 0 ∷ []) 63) (counted 3 3 0 0 11)
+    (row 0 0 value 0 0 0 9 returned ∷ row 0 1 value 4_294_967_295 0 1 2 returned ∷ row 0 2 value 0 0 2 0 returned ∷ [])
+    ∷ []
