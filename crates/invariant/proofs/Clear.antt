@@ -97,18 +97,19 @@ wait-left m (Write Next) x y h = refl
 wait-left m Swap x y h = refl
 
 module _ {n h : ℕ} {v v′ : View} {g : Ledger} {t : ℕ} {l : Line} {request : Request} {answer : Answer} {copies : List ℕ} (en : Entering n h v v′ g t l request answer copies) where
-  -- a location that the line writes
+  -- a location that the line writes: Tail; a field of the node that the thread holds, whose next isn't written yet if it is queued;
+  -- or in the turn a field of the node at position r, not req or next, and its wait to FALSE
   pub data Hit : Location → Type 0 where
     swapped : Hit tail
     own : {m : NodeId} {f : Field} → m .0 ≡ held (slot n v t) → (T (queued (slot n v t .stage)) → g .linked (g .at t) ≡ false) → Hit (part m f)
     served : {m : NodeId} {f : Field} → m .0 ≡ g .node (g .r) → g .who (g .b) ≡ t → T (not (among unserved f))
         → (T (among (Wait ∷ []) f) → v′ .node (m .0) .wait ≡ false) → Hit (part m f)
 
-  -- a location that it does not write
+  -- a location that the line does not write
   abbrev pub Clear : Location → Type 0
   Clear x = (y : Location) → Hit y → y ≡ x → ⊥
 
-  -- an access of it
+  -- an access of the line
   pub record Touch (m : NodeId) (a : Access) : Type 0 where
     pub placed : Placed m a
     pub ends : Ends a → Hit (located a)
