@@ -1,4 +1,5 @@
--- A machine seen as functions: its threads, its nodes and Tail; and what one entry does to it.
+-- A machine seen as functions: its threads, its nodes and Tail.
+-- What one entry does to it is what its line does, by Algorithm 1.
 use Prim.Native.Nat.{ℕ, _<_}
 use mathlib.Core.Path.{_≡_}
 use lib.ListN.{getD}
