@@ -78,7 +78,8 @@ pub record Queued (g : Ledger) (u cur : ℕ) (x : Node) : Type 0 where
 abbrev pub Even : Ledger → ℕ → Type 0
 Even g i = i ≡ g .b → (g .a ≡ g .b) × (g .r ≡ g .b)
 
--- waiting: whether next is written (8 on); the own node is the dummy that was swapped in (6, 7) or curNode (9 on); released or at the turn (10); released (11); at the turn (12)
+-- waiting: whether next is written (8 on); the own node is the dummy that was swapped in (6, 7), or curNode (9 on);
+-- released or at the turn (10); released (11); at the turn (12)
 pub record WaitRow : Type 0 where
   pub linked : Bool
   pub swapped : Bool
@@ -107,7 +108,8 @@ pub record WaitFacts (row : WaitRow) (g : Ledger) (i own cur served : ℕ) : Typ
   pub turn : T (row .turn) → i ≡ g .b
   pub even : Even g i
 
--- in the turn: how far applied, completed and the served counter are ahead of released; room below h (14); the node to serve has a next (14 to 18), which is tmpNodeNext (16 to 18); one is served (20)
+-- in the turn: how far the applied, the completed and the served counter are ahead of the released; the counter has room below h (14);
+-- the node to serve has a next (14 to 18), which is tmpNodeNext (16 to 18); at least one is served (20)
 pub record CombineRow : Type 0 where
   pub applied : ℕ
   pub completed : ℕ
