@@ -13,7 +13,8 @@ use Rattle.copies.specs.Copies.{hasCopy}
 use Rattle.copies.specs.Remote.{fieldNumber, place, located, holds, wordAfter, copiesAfter}
 use Rattle.copies.proofs.Valid.{read-holds, read-keeps, write-holds, write-ends}
 
-field-number-below : (f : Field) → fieldNumber f < 5
+-- a node has five fields
+pub field-number-below : (f : Field) → fieldNumber f < 5
 field-number-below Req = omega arith
 field-number-below Ret = omega arith
 field-number-below Wait = omega arith

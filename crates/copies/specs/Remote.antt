@@ -26,7 +26,7 @@ located (read l) = l
 located (write l) = l
 located (swap l) = l
 
--- the same by the location's place among the copies
+-- whether a thread has a valid copy of a location, by the location's place
 abbrev pub holds : List ℕ → ℕ → Location → Bool
 holds copies t l = hasCopy (getD copies (place l) 0) t
 

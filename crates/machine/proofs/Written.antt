@@ -1,5 +1,5 @@
 -- The table tells the truth: by its row a line changes no field of its node but those that it writes, which it sets whatever they held,
--- and Tail only by a Swap; and its thread after it depends on the fields that the row reads alone. Assumes nothing.
+-- and Tail only by a Swap; its thread after it depends on the fields that the row reads alone, and a req or ret that it uses is one of these. Assumes nothing.
 use Prim.Native.Nat.{ℕ}
 use mathlib.Core.Path.{_≡_, refl}
 use Rattle.object.specs.declared.Request.{Request}
@@ -84,3 +84,7 @@ module _ (th : Thread) (x : Node) (tail : NodeId) (h : ℕ) (request : Request) 
   told L19 = record { refusal = refl; node = refl; sets = λ y. refl; tail = refl; reads = λ y. refl }
   told L20 = record { refusal = refl; node = refl; sets = λ y. refl; tail = refl; reads = λ y. refl }
   told L21 = record { refusal = refl; node = refl; sets = λ y. refl; tail = refl; reads = λ y. refl }
+
+-- the req that line 16 applies and the ret that lines 11 and 21 return are fields that their rows read
+pub used : (x y : Node) → (rowReads (rowOf L16) x y .req ≡ x .req) × ((rowReads (rowOf L11) x y .ret ≡ x .ret) × (rowReads (rowOf L21) x y .ret ≡ x .ret))
+used x y = (refl, (refl, refl))
