@@ -1,15 +1,15 @@
 -- The machine's copies are what the accesses of the entries so far say, so each entry's remote marks are as said. Assumes a sound state and a thread below n.
-use Prim.Native.Nat.{ℕ, zero, suc, _≤_, _<_}
+use Prim.Native.Nat.{ℕ, suc, _≤_, _<_}
 use native.Mathlib.Omega.{arith}
 use mathlib.Core.Path.{_≡_, refl, sym, ap, ap₂, _∙_}
 use mathlib.Core.Bool.{Bool, true, false, cond, not, _&&_, _||_}
 use mathlib.Core.List.{List, [], _∷_, map}
-use lib.ListN.{length, getD, replicate, length-set}
+use lib.ListN.{length, replicate, length-set}
 use lib.Dec.{eqb}
 use borrow.Author.Tests.{eqb-true, eqb-false}
 use Rattle.machine.specs.declared.ThreadId.{ThreadId}
 use Rattle.machine.specs.declared.NodeId.{NodeId}
-use Rattle.machine.specs.Lines.{Line, Blank, L1, L2, L3, L4, L5, L6, L7, L8, L9, L10, L11, L12, L13, L14, L15, L16, L17, L18, L19, L20, L21, lineOf, rowOf, accessesOf, Location, Access, read, write, swap}
+use Rattle.machine.specs.Lines.{Line, lineOf, rowOf, accessesOf, Location, Access, read, write, swap}
 use Rattle.copies.specs.Copies.{hasCopy}
 use Rattle.copies.specs.Remote.{place, located, holds, copiesAfter, referred}
 use Rattle.copies.proofs.Valid.{none-held}
@@ -17,23 +17,19 @@ use Rattle.copies.proofs.Holding.{place-injective, elsewhere-kept, read-kept, o
 use Rattle.state.specs.declared.State.{State}
 use Rattle.state.proofs.RangeFacts.{state-fits}
 use Rattle.step.specs.Entry.{line, target, accesses, entered}
+use Rattle.step.proofs.Numbers.{each-line}
 use Rattle.step.proofs.Outcome.{target-in-range}
 use Rattle.step.proofs.Soundness.{Sound}
-use Rattle.claims.specs.Entries.{Entry, entryOf, remoteOnes, writing, settles, validCopy}
+use Rattle.claims.proofs.Start.{padded}
+use Rattle.claims.specs.Entries.{Entry, entryOf, remoteMarks, writing, decides, validCopy}
 
 -- each of n threads has the copies that the entries so far give it
 pub record CopiesSaid (n : ℕ) (copies : List ℕ) (past : List Entry) : Type 0 where
   pub said : (u : ℕ) (l : Location) → u < n → holds copies u l ≡ validCopy u l past
 
--- a list of one element k times gives it at each place, past the end too where it is the default
-getD-of-one : {A : Type 0} (a : A) (k i : ℕ) → getD (replicate k a) i a ≡ a
-getD-of-one a zero i = refl
-getD-of-one a (suc k) zero = refl
-getD-of-one a (suc k) (suc i) = getD-of-one a k i
-
 -- a fresh machine has no copies
 pub copies-fresh : (n : ℕ) → CopiesSaid n (replicate 86 0) []
-copies-fresh n = record { said = λ u l h. ap (λ (w : ℕ). hasCopy w u) (getD-of-one 0 86 (place l)) ∙ none-held u }
+copies-fresh n = record { said = λ u l h. ap (λ (w : ℕ). hasCopy w u) (padded 0 86 (place l)) ∙ none-held u }
 
 -- accesses of places from k on and below 86, each past the one before
 abbrev Ascends : ℕ → List Access → Type 0
@@ -42,28 +38,7 @@ Ascends k (a ∷ rest) = (k ≤ place (located a)) × (place (located a) < 86) �
 
 -- so are each line's: line 16 reads req and then writes ret of one node
 line-ascends : (l : Line) (m : NodeId) → m .0 ≤ 16 → Ascends 0 (accessesOf (rowOf l) m)
-line-ascends Blank m h = omega arith
-line-ascends L1 m h = omega arith
-line-ascends L2 m h = omega arith
-line-ascends L3 m h = omega arith
-line-ascends L4 m h = omega arith
-line-ascends L5 m h = omega arith
-line-ascends L6 m h = omega arith
-line-ascends L7 m h = omega arith
-line-ascends L8 m h = omega arith
-line-ascends L9 m h = omega arith
-line-ascends L10 m h = omega arith
-line-ascends L11 m h = omega arith
-line-ascends L12 m h = omega arith
-line-ascends L13 m h = omega arith
-line-ascends L14 m h = omega arith
-line-ascends L15 m h = omega arith
-line-ascends L16 m h = omega arith
-line-ascends L17 m h = omega arith
-line-ascends L18 m h = omega arith
-line-ascends L19 m h = omega arith
-line-ascends L20 m h = omega arith
-line-ascends L21 m h = omega arith
+line-ascends l m h = each-line (λ (l : Line). Ascends 0 (accessesOf (rowOf l) m)) (search arith) l
 
 -- of two tests in turn with one outcome, either decides
 cond-or : {A : Type 0} (a b : Bool) (x y : A) → cond b x (cond a x y) ≡ cond (a || b) x y
@@ -75,7 +50,7 @@ module _ (n t : ℕ) where
   -- such accesses are of different locations, so the copies before them decide which are remote
   remote-before : (said : Location → Bool) (k : ℕ) (copies : List ℕ) (accesses : List Access) → Ascends k accesses
       → ((l : Location) → k ≤ place l → holds copies t l ≡ said l)
-      → remoteOnes n t copies accesses ≡ map (λ (a : Access). not (said (located a))) accesses
+      → remoteMarks n t copies accesses ≡ map (λ (a : Access). not (said (located a))) accesses
   remote-before said k copies [] up e = refl
   remote-before said k copies (a ∷ rest) up e =
       ap₂ (λ (b : Bool) (marks : List Bool). not b ∷ marks) (e (located a) (up .0))
@@ -104,12 +79,12 @@ module _ (n t : ℕ) where
 
       -- and after several: they settle it, or it is as it was
       all-after : (copies : List ℕ) (k : ℕ) (accesses : List Access) → length copies ≡ 86 → Ascends k accesses
-          → holds (referred n t copies accesses .copies) u l ≡ cond (settles u l t accesses) (eqb t u) (holds copies u l)
+          → holds (referred n t copies accesses .copies) u l ≡ cond (decides u l t accesses) (eqb t u) (holds copies u l)
       all-after copies k [] full up = refl
       all-after copies k (a ∷ rest) full up =
           all-after (copiesAfter n t a copies) _ rest (length-set copies _ _ ∙ full) (up .2)
-          ∙ ap (λ (b : Bool). cond (settles u l t rest) (eqb t u) b) (one-after copies a (omega (arith, up .1)) _ refl)
-          ∙ cond-or (eqb (place (located a)) (place l) && (eqb t u || writing a)) (settles u l t rest) (eqb t u) (holds copies u l)
+          ∙ ap (λ (b : Bool). cond (decides u l t rest) (eqb t u) b) (one-after copies a (omega (arith, up .1)) _ refl)
+          ∙ cond-or (eqb (place (located a)) (place l) && (eqb t u || writing a)) (decides u l t rest) (eqb t u) (holds copies u l)
 
 module _ (s : State) (t : ThreadId) (past : List Entry) (sound : Sound s) (below : t .0 < s .n) (copies : CopiesSaid (s .n) (s .copies) past) where
   few : s .n ≤ 16
@@ -123,7 +98,7 @@ module _ (s : State) (t : ThreadId) (past : List Entry) (sound : Sound s) (below
   copies-kept = record {
     said = λ u l h.
         all-after (s .n) (t .0) below few u h l (s .copies) 0 (accesses s t) (sound .shape .copies) ascends
-        ∙ ap (λ (b : Bool). cond (settles u l (t .0) (accesses s t)) (eqb (t .0) u) b) (copies .said u l h);
+        ∙ ap (λ (b : Bool). cond (decides u l (t .0) (accesses s t)) (eqb (t .0) u) b) (copies .said u l h);
   }
 
   -- and it marks an access remote exactly if the entries before it leave its thread no valid copy

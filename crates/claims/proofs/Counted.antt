@@ -18,8 +18,8 @@ use Rattle.state.specs.declared.State.{State}
 use Rattle.state.specs.Range.{countsInRange}
 use Rattle.state.proofs.RangeFacts.{counts-iff}
 use Rattle.step.specs.Entry.{oneIf, moreOf, plus, line, row, target, node, accesses, references, countsAfter, entered}
-use Rattle.claims.specs.Entries.{Entry, remoteOnes, entryOf, sumOver}
-use Rattle.claims.specs.Claims.{Call, remoteIn, runs, isOf, costOf, countsOf}
+use Rattle.claims.specs.Entries.{Entry, remoteMarks, entryOf, sumOver, remoteIn, runs}
+use Rattle.claims.specs.Claims.{Call, isOf, costOf, countsOf}
 
 at-most-one : (test : Bool) → oneIf test ≤ 1
 at-most-one true = omega arith
@@ -31,13 +31,13 @@ one-remote true = refl
 one-remote false = refl
 
 module _ (n t : ℕ) where
-  pub remote-ones : (copies : List ℕ) (accesses : List Access) → remoteIn (remoteOnes n t copies accesses) ≡ referred n t copies accesses .remote
+  pub remote-ones : (copies : List ℕ) (accesses : List Access) → remoteIn (remoteMarks n t copies accesses) ≡ referred n t copies accesses .remote
   remote-ones copies [] = refl
   remote-ones copies (a ∷ accesses) =
       omega (arith, one-remote (holds copies t (located a)), remote-ones (copiesAfter n t a copies) accesses)
 
   -- and no more than its accesses
-  remote-most : (copies : List ℕ) (accesses : List Access) → remoteIn (remoteOnes n t copies accesses) ≤ length accesses
+  remote-most : (copies : List ℕ) (accesses : List Access) → remoteIn (remoteMarks n t copies accesses) ≤ length accesses
   remote-most copies [] = omega arith
   remote-most copies (a ∷ accesses) =
       omega (arith, at-most-one (not (holds copies t (located a))), remote-most (copiesAfter n t a copies) accesses)
@@ -52,7 +52,7 @@ one-access m Swap = omega arith
 abbrev pub Few : Entry → Type 0
 Few e = remoteIn (e .remote) ≤ 2
 
-pub entry-few : (s : State) (t : ThreadId) → Few (entryOf s t)
+entry-few : (s : State) (t : ThreadId) → Few (entryOf s t)
 entry-few s t =
     let one = one-access (target s t) (row s t .first) in
     let two = one-access (target s t) (row s t .second) in
@@ -94,7 +94,7 @@ module _ (run : List Entry) (few : Each Few run) (short : length run ≤ 32768) 
   tests-fit : (test : Entry → Bool) → sumOver (λ e past. oneIf (test e)) run < 2 ^ 32
   tests-fit test = fits (λ e past. oneIf (test e)) (λ e past few. omega (arith, at-most-one (test e)))
 
-  pub counts-fit : countsInRange (countsOf run) ≡ true
+  counts-fit : countsInRange (countsOf run) ≡ true
   counts-fit = counts-iff (countsOf run) .1 (record {
     records = tests-fit (runs 5);
     turns = tests-fit (runs 12);

@@ -38,7 +38,7 @@ abbrev pub Keeps : ℕ → ℕ → (State → List Entry → Type 0) → Type 0
 Keeps n most P =
     (s : State) (past : List Entry) (t : ThreadId) → t .0 < n → length past < most → P s past → P (entered s t) (entryOf s t ∷ past)
 
-pub along : (n most : ℕ) (P : State → List Entry → Type 0) → Keeps n most P → (s : State) (past : List Entry) (schedule : List ℕ)
+along : (n most : ℕ) (P : State → List Entry → Type 0) → Keeps n most P → (s : State) (past : List Entry) (schedule : List ℕ)
     → Each (λ t. t < n) schedule → length past + length schedule ≤ most → P s past → P (stateAfter s schedule) (reverseAux (entriesFrom s schedule) past)
 unfolding entriesFrom stateAfter
 along n most P keeps s past [] each few p = p

@@ -5,13 +5,17 @@ use mathlib.Core.Bool.{true, false}
 use mathlib.Core.List.{List, map}
 use lib.ListN.{length, getD, take}
 use lib.Dec.{leb, eqb}
+use Rattle.object.specs.declared.Request.{Request}
+use Rattle.object.specs.declared.Answer.{Answer}
 use Rattle.machine.specs.declared.RetVal.the-variants.{Answered}
+use Rattle.machine.specs.declared.Thread.{Thread}
 use Rattle.machine.specs.Lines.{Line}
 use Rattle.step.proofs.Numbers.{number}
 use Rattle.invariant.specs.Ledger.{Ledger}
-use Rattle.invariant.specs.View.{View, goal}
-use Rattle.claims.specs.Entries.{Entry}
-use Rattle.claims.specs.Claims.{Call, Serving, begunBy, howMany, swapOrder, callGiven, turnOf, turnOfCall, combines, servings, servedIn, remoteIn, costOf, returned, combined, returns}
+use Rattle.invariant.specs.View.{View, goal, Does}
+use Rattle.invariant.specs.Control.{Control}
+use Rattle.claims.specs.Entries.{Entry, howMany, remoteIn}
+use Rattle.claims.specs.Claims.{Call, Serving, begunBy, swapOrder, callGiven, turnOf, turnOfCall, combines, servings, servedIn, costOf, returned, combined, returns}
 
 -- the entry of thread t's line, with k remote references: at a Swap the node is Tail's, at line 16 the one that the line points to
 pub record Tells (v : View) (t : ℕ) (l : Line) (k : ℕ) (e : Entry) : Type 0 where
@@ -21,9 +25,18 @@ pub record Tells (v : View) (t : ℕ) (l : Line) (k : ℕ) (e : Entry) : Type 0 
   pub serves : number l ≡ 16 → e .node ≡ goal v t l
   pub remote : remoteIn (e .remote) ≡ k
 
+-- thread t's line l makes v into v′, and its entry e follows those of the past
+pub record Happens (n h : ℕ) (v v′ : View) (g : Ledger) (t : ℕ) (l : Line) (request : Request) (answer : Answer) (past : List Entry) (e : Entry) (k : ℕ) : Type 0 where
+  pub control : Control n h v g
+  pub does : Does n h v v′ t l request answer
+  pub tells : Tells v t l k e
+
 -- the call that a thread has begun last
+abbrev pub lastOf : ℕ → Thread → Call
+lastOf u th = record { thread = u; request = th .begun - 1 }
+
 abbrev pub lastCall : View → ℕ → Call
-lastCall v u = record { thread = u; request = v .thread u .begun - 1 }
+lastCall v u = lastOf u (v .thread u)
 
 -- a thread in its turn: line 12 has run, line 20 has not
 pub record InTurn (n : ℕ) (v : View) (u : ℕ) : Type 0 where
@@ -72,14 +85,20 @@ pub record Untouched (past : List Entry) (c : Call) : Type 0 where
   pub returned : returned c past ≡ false
   pub combined : combined c past ≡ false
 
--- the open call of a thread
-pub record Open (n : ℕ) (v : View) (spent : ℕ) (past : List Entry) (u : ℕ) : Type 0 where
-  pub cost : costOf (lastCall v u) past ≡ spent
-  pub returned : returned (lastCall v u) past ≡ false
-  pub combined : combined (lastCall v u) past ≡ leb 13 (v .thread u .line)
-  pub turn : 13 ≤ v .thread u .line → turnOfCall (lastCall v u) past ≡ turnOf u past
-  pub served : v .thread u .line ≡ 21 → servedIn (turnOf u past) past ≡ v .thread u .served
-  pub ended : v .thread u .line ≡ 21 → Ended n v past (turnOf u past)
+-- the open call of thread u
+pub record Open (n : ℕ) (v : View) (u : ℕ) (th : Thread) (spent : ℕ) (past : List Entry) : Type 0 where
+  pub cost : costOf (lastOf u th) past ≡ spent
+  pub returned : returned (lastOf u th) past ≡ false
+  pub combined : combined (lastOf u th) past ≡ leb 13 (th .line)
+  pub turn : 13 ≤ th .line → turnOfCall (lastOf u th) past ≡ turnOf u past
+  pub served : th .line ≡ 21 → servedIn (turnOf u past) past ≡ th .served
+  pub ended : th .line ≡ 21 → Ended n v past (turnOf u past)
+
+-- how a returned call was served: by its own thread exactly if it combined, and then in its own turn; and it returns the answer
+pub record ServedTo (past : List Entry) (c : Call) (w : Serving) : Type 0 where
+  pub server : eqb (w .server) (c .thread) ≡ combined c past
+  pub own-turn : combined c past ≡ true → w .turn ≡ turnOfCall c past
+  pub answer : returns c past ≡ Answered (w .answer)
 
 -- a returned call: its position, whose request is applied, and its bounds
 pub record Settled (n : ℕ) (v : View) (g : Ledger) (past : List Entry) (c : Call) : Type 0 where
@@ -89,21 +108,19 @@ pub record Settled (n : ℕ) (v : View) (g : Ledger) (past : List Entry) (c : Ca
   pub position : ℕ
   pub applied : position < g .a
   pub call : (d : Call) → getD (swapOrder past) position d ≡ c
-  pub server : (d : Serving) → eqb (getD (servings past) position d .server) (c .thread) ≡ combined c past
-  pub own-turn : (d : Serving) → combined c past ≡ true → getD (servings past) position d .turn ≡ turnOfCall c past
-  pub answer : (d : Serving) → returns c past ≡ Answered (getD (servings past) position d .answer)
+  pub serving : (d : Serving) → ServedTo past c (getD (servings past) position d)
   pub by-another : combined c past ≡ false → costOf c past ≤ 10
   pub combining : combined c past ≡ true → costOf c past ≤ 5 * servedIn (turnOfCall c past) past + 7
   pub ended : combined c past ≡ true → Ended n v past (turnOfCall c past)
 
--- how an open call was served: by its own thread exactly if that has begun a turn, and then in this turn
-pub record Served (v : View) (past : List Entry) (u : ℕ) (w : Serving) : Type 0 where
-  pub server : eqb (w .server) u ≡ leb 13 (v .thread u .line)
-  pub own-turn : 13 ≤ v .thread u .line → w .turn ≡ turnOf u past
+-- how the open call of a thread at a line was served: by its own thread exactly if that has begun a turn, and then in this turn
+pub record Served (u line : ℕ) (past : List Entry) (w : Serving) : Type 0 where
+  pub server : eqb (w .server) u ≡ leb 13 line
+  pub own-turn : 13 ≤ line → w .turn ≡ turnOf u past
 
 -- calls: not begun, open and returned ones
 pub record Calls (n : ℕ) (v : View) (g : Ledger) (cost : ℕ → ℕ) (past : List Entry) : Type 0 where
   pub fresh : (c : Call) → c .thread < n → v .thread (c .thread) .begun ≤ c .request → Untouched past c
-  pub open-call : (u : ℕ) → u < n → 0 < v .thread u .line → Open n v (cost u) past u
-  pub served : (u : ℕ) (d : Serving) → u < n → 6 ≤ v .thread u .line → g .at u < g .a → Served v past u (getD (servings past) (g .at u) d)
+  pub open-call : (u : ℕ) → u < n → 0 < v .thread u .line → Open n v u (v .thread u) (cost u) past
+  pub served : (u : ℕ) (d : Serving) → u < n → 6 ≤ v .thread u .line → g .at u < g .a → Served u (v .thread u .line) past (getD (servings past) (g .at u) d)
   pub settled : (c : Call) → returned c past ≡ true → Settled n v g past c

@@ -1,3 +1,4 @@
+pub mod Bytes
 pub mod Calls
 pub mod CopiesSaid
 pub mod Counted
@@ -7,10 +8,7 @@ pub mod History
 pub mod Holding
 pub mod Layers
 pub mod Marked
-pub mod Moves
 pub mod OfCall
-pub mod Parts
-pub mod Positions
 pub mod Run
 pub mod Served
 pub mod Start

@@ -1,14 +1,13 @@
 -- Which call an entry is of, and what an entry of another call leaves as it was. Assumes nothing.
 use Prim.Native.Nat.{ℕ, _+_}
 use native.Mathlib.Nat.{zero-add}
-use native.Mathlib.Omega.{arith}
-use mathlib.Core.Path.{_≡_, refl, sym, ap, ap₂, _∙_}
-use mathlib.Core.Bool.{Bool, true, false, cond, not, _&&_, _||_, and-false, and-eq-true-iff}
+use mathlib.Core.Path.{_≡_, refl, ap₂}
+use mathlib.Core.Bool.{Bool, true, false, cond, not, _||_, and-false, and-eq-true-iff}
 use mathlib.Core.List.{List, _∷_}
 use lib.Dec.{eqb}
 use borrow.Author.Tests.{eq-eqb, ne-eqb, eqb-true}
-use Rattle.claims.specs.Entries.{Entry}
-use Rattle.claims.specs.Claims.{Call, callOf, same, isOf, runs, turnOfCall, remoteIn, howMany, costOf, returned, combined, returns}
+use Rattle.claims.specs.Entries.{Entry, runs, remoteIn, howMany}
+use Rattle.claims.specs.Claims.{Call, callOf, same, isOf, turnOfCall, costOf, returned, combined, returns}
 
 abbrev call : ℕ → ℕ → Call
 call t q = record { thread = t; request = q }
@@ -22,7 +21,7 @@ same-told c c′ e =
     ap₂ call (eqb-true _ _ (p .0)) (eqb-true _ _ (p .1))
 
 -- a test that cannot pass fails
-pub fails : (b : Bool) → (b ≡ true → ⊥) → b ≡ false
+fails : (b : Bool) → (b ≡ true → ⊥) → b ≡ false
 fails true f = absurd (f refl)
 fails false f = refl
 

@@ -1,5 +1,5 @@
 -- What holds after every cut of a file's run: that no entry is refused, the counts, and whatever else every entry keeps. Assumes fields in range and what the module's parameters say.
-use Prim.Native.Nat.{ℕ, _-_, _≤_, _<_, _^_}
+use Prim.Native.Nat.{ℕ, _-_, _≤_, _<_}
 use native.Mathlib.Omega.{arith}
 use mathlib.Core.Path.{_≡_, refl}
 use mathlib.Core.Bool.{true, false}
@@ -17,8 +17,8 @@ use Rattle.step.specs.Steps.{stepsOf}
 use Rattle.step.proofs.Outcome.{begun-few}
 use Rattle.step.proofs.Soundness.{Sound}
 use Rattle.claims.specs.Entries.{Entry, entryOf, startOf, stateAfter, entriesOf}
-use Rattle.claims.specs.Claims.{Call, requestOf, costOf}
-use Rattle.claims.proofs.Counted.{Counted, counted-next, cost-fits, next-fits}
+use Rattle.claims.specs.Claims.{askedBy}
+use Rattle.claims.proofs.Counted.{Counted, counted-next, next-fits}
 use Rattle.claims.proofs.Cut.{cut-in-range, after-cut}
 use Rattle.claims.proofs.Start.{requests-start, sound-start}
 use Rattle.claims.proofs.Steps.{through, one-step, one-sound, steps-fold}
@@ -36,7 +36,7 @@ pub record Going (f : Fields) (s : State) (past : List Entry) : Type 0 where
 
 -- the request of the call that a thread has begun last is the file's
 pub request-going : (f : Fields) (s : State) (past : List Entry) (t : ThreadId) → InRange f → Going f s past → t .0 < s .n
-    → request s t ≡ requestOf f (record { thread = t .0; request = named s t .begun - 1 })
+    → request s t ≡ askedBy f (record { thread = t .0; request = named s t .begun - 1 })
 request-going f s past t fits going below =
     rw (going .requests)
     (requests-start f fits (t .0) (named s t .begun - 1) (omega (arith, begun-few s t (going .sound .shape) (going .sound .range) below)))
@@ -82,7 +82,3 @@ module _ (f : Fields) (fits : InRange f) (P : State → List Entry → Type 0) (
     run-steps =
         let fits′ = cut-in-range f j fits in
         steps-fold (f .head .n) 32768 Both goes goes-on (startOf f) [] (take j (f .schedule)) (fits′ .schedule) (omega (arith, fits′ .entries)) starts
-
-    -- the remote references of every call have 32 bits
-    pub run-cost : (c : Call) → costOf c (reverse (take j (entriesOf f))) < 2 ^ 32
-    run-cost = cost-fits (reverse (take j (entriesOf f))) (run-keeps .0 .counted .few) (run-keeps .0 .short)

@@ -2,19 +2,18 @@
 -- Assumes Swaps, and that no more requests are applied than swapped.
 use Prim.Native.Nat.{ℕ, zero, suc, _≤_, _<_}
 use native.Mathlib.Omega.{arith}
-use mathlib.Core.Path.{_≡_, refl, sym, _∙_, ap, ap₂}
-use mathlib.Core.Bool.{Bool, true, false, and-eq-true-iff}
+use mathlib.Core.Path.{_≡_, refl, sym, _∙_, ap}
+use mathlib.Core.Bool.{false}
 use mathlib.Core.List.{List, [], _∷_, map}
 use lib.ListN.{length, getD, take, length-map}
 use lib.Seq.{length-take-le, getD-take}
-use borrow.Author.Tests.{eqb-true, eq-eqb}
-use Rattle.object.specs.Paper.{answerMark, answerValue}
 use Rattle.bench_file.specs.Bytes.{lowFirst}
 use Rattle.invariant.specs.Ledger.{Ledger}
 use Rattle.invariant.specs.View.{View}
 use Rattle.claims.specs.Entries.{Entry}
-use Rattle.claims.specs.Claims.{Call, Serving, Shown, Shows, same, swapOrder, servings, shownOf, recordOf, recordsOf}
+use Rattle.claims.specs.Claims.{Call, Serving, Shown, HasAnswer, same, noCall, swapOrder, servings, shown, unshown, shownOf, retMark, retValue, recordOf, recordsOf}
 use Rattle.claims.proofs.History.{Swaps}
+use Rattle.claims.proofs.OfCall.{same-itself, not-same}
 
 -- within a list what stands for the places past it doesn't matter
 pub map-at : {A B : Type 0} (f : A → B) (l : List A) (i : ℕ) (a : A) (b : B) → i < length l → getD (map f l) i b ≡ f (getD l i a)
@@ -22,35 +21,17 @@ map-at f [] i a b k = absurd (omega arith)
 map-at f (x ∷ l) zero a b k = refl
 map-at f (x ∷ l) (suc i) a b k = map-at f l i a b (omega arith)
 
-same-call : (c : Call) → same c c ≡ true
-same-call c = rw (eq-eqb (c .thread) (c .thread) refl, eq-eqb (c .request) (c .request) refl)
-
-other-call : (c c′ : Call) → (c ≡ c′ → ⊥) → same c c′ ≡ false
-other-call c c′ apart = by-test (same c c′) refl
-  where
-    by-test : (b : Bool) → same c c′ ≡ b → b ≡ false
-    by-test true e =
-        let p = simp and-eq-true-iff at e in
-        absurd (apart (ap₂ (λ (t r : ℕ). record { thread = t; request = r }) (eqb-true _ _ (p .0)) (eqb-true _ _ (p .1))))
-    by-test false e = refl
-
 abbrev callServed : Serving → Call
 callServed w = w .call
 
--- what a record shows of a serving, and of none
-abbrev pub shows : Serving → Shown
-shows w = record { mark = answerMark (w .answer); server = w .server; value = answerValue (w .answer); turn = w .turn }
-
-abbrev pub unshown : Shown
-unshown = record { mark = 255; server = 255; value = 0; turn = 65535 }
-
 -- the serving that a record shows is the first of its call
 shown-first : (l : List Serving) (i : ℕ) (x : Serving) → i < length l
-    → ((j : ℕ) → j < i → same (getD l i x .call) (getD l j x .call) ≡ false) → shownOf (getD l i x .call) l ≡ shows (getD l i x)
+    → ((j : ℕ) → j < i → same (getD l i x .call) (getD l j x .call) ≡ false) → shownOf (getD l i x .call) l ≡ shown (getD l i x)
 shown-first [] i x k f = absurd (omega arith)
-shown-first (w ∷ l) zero x k f = rw (same-call (w .call))
+shown-first (w ∷ l) zero x k f = rw (same-itself (w .call))
 shown-first (w ∷ l) (suc i) x k f = rw (f 0 (omega arith)) (shown-first l i x (omega arith) (λ j m. f (suc j) (omega arith)))
 
+-- and a call with no serving shows none
 shown-not : (l : List Serving) (c d : Call) → ((j : ℕ) → j < length l → same c (getD (map callServed l) j d) ≡ false) → shownOf c l ≡ unshown
 shown-not [] c d f = refl
 shown-not (w ∷ l) c d f = rw (f 0 (omega arith)) (shown-not l c d (λ j m. f (suc j) (omega arith)))
@@ -60,50 +41,39 @@ module _ (past : List Entry) where
   pub record-at : (i : ℕ) (d : Call) → i < length (swapOrder past) → getD (recordsOf past) i [] ≡ recordOf past (getD (swapOrder past) i d)
   record-at i d k = map-at (recordOf past) (swapOrder past) i d [] k
 
-  pub record-shows : (i : ℕ) (d : Call) (shown : Shown) → i < length (swapOrder past) → shownOf (getD (swapOrder past) i d) (servings past) ≡ shown
-      → Shows (getD (recordsOf past) i []) (shown .mark) (shown .value)
+  pub record-shows : (i : ℕ) (d : Call) (w : Shown) → i < length (swapOrder past) → shownOf (getD (swapOrder past) i d) (servings past) ≡ w
+      → HasAnswer (getD (recordsOf past) i []) (retMark (w .ret)) (retValue (w .ret))
   unfolding lowFirst
-  record-shows i d shown k e = rw (record-at i d k) (ap (λ (x : Shown). x .mark) e, ap (λ (x : Shown). lowFirst 4 (x .value)) e)
+  record-shows i d w k e = rw (record-at i d k) (ap (λ (x : Shown). retMark (x .ret)) e, ap (λ (x : Shown). lowFirst 4 (retValue (x .ret))) e)
 
   pub named : (i : ℕ) (d : Call) → i < length (swapOrder past)
       → take 2 (getD (recordsOf past) i []) ≡ getD (swapOrder past) i d .thread ∷ getD (swapOrder past) i d .request ∷ []
   named i d k = rw (record-at i d k)
 
-module _ (n : ℕ) (v : View) (g : Ledger) (past : List Entry) (w : Swaps n v g past) (most : g .a ≤ g .s) where
+module _ {n : ℕ} {v : View} {g : Ledger} {past : List Entry} (w : Swaps n v g past) (most : g .a ≤ g .s) where
   pub applied : length (servings past) ≡ g .a
   applied =
       sym (length-map (servings past) (λ (x : Serving). x .call)) ∙ ap length (w .served)
       ∙ length-take-le (g .a) (swapOrder past) (omega (arith, w .swaps))
 
-  pub most-served : length (servings past) ≤ length (swapOrder past)
-  most-served = omega (arith, applied, w .swaps)
-
-  pub served : map (λ (x : Serving). x .call) (servings past) ≡ take (length (servings past)) (swapOrder past)
-  served = rw applied (w .served)
-
-  pub once : (i j : ℕ) (d : Call) → i < j → j < length (swapOrder past) → getD (swapOrder past) i d ≡ getD (swapOrder past) j d → ⊥
-  once i j d k m = w .once i j d k (omega (arith, w .swaps))
-
   -- the i-th serving is of the i-th call
   call-at : (i : ℕ) (d : Call) → i < g .a → getD (map callServed (servings past)) i d ≡ getD (swapOrder past) i d
   call-at i d k = ap (λ (l : List Call). getD l i d) (w .served) ∙ getD-take (g .a) (swapOrder past) i d k
 
-  pub call-served : (i : ℕ) (x : Serving) (d : Call) → i < g .a → getD (servings past) i x .call ≡ getD (swapOrder past) i d
+  call-served : (i : ℕ) (x : Serving) (d : Call) → i < g .a → getD (servings past) i x .call ≡ getD (swapOrder past) i d
   call-served i x d k = sym (map-at callServed (servings past) i x d (omega (arith, applied))) ∙ call-at i d k
 
   -- a call's record shows the serving at its position, or none
-  pub shown-at : (i : ℕ) (x : Serving) (d : Call) → i < g .a → shownOf (getD (swapOrder past) i d) (servings past) ≡ shows (getD (servings past) i x)
+  pub shown-at : (i : ℕ) (x : Serving) (d : Call) → i < g .a → shownOf (getD (swapOrder past) i d) (servings past) ≡ shown (getD (servings past) i x)
   shown-at i x d k =
       rw (← call-served i x d k) (shown-first (servings past) i x (omega (arith, applied)) (λ j m.
-      other-call _ _ (λ e. w .once j i d m (omega arith) (sym (call-served j x d (omega arith)) ∙ sym e ∙ call-served i x d k))))
+      not-same _ _ (λ e. w .once j i d m (omega arith) (sym (call-served j x d (omega arith)) ∙ sym e ∙ call-served i x d k))))
 
-  pub shown-none : (i : ℕ) (d : Call) → g .a ≤ i → i < g .s → shownOf (getD (swapOrder past) i d) (servings past) ≡ unshown
+  shown-none : (i : ℕ) (d : Call) → g .a ≤ i → i < g .s → shownOf (getD (swapOrder past) i d) (servings past) ≡ unshown
   shown-none i d low high =
       shown-not (servings past) _ d (λ j m.
       let k : j < g .a = omega (arith, applied) in
-      other-call _ _ (λ e. w .once j i d (omega arith) high (sym (call-at j d k) ∙ sym e)))
+      not-same _ _ (λ e. w .once j i d (omega arith) high (sym (call-at j d k) ∙ sym e)))
 
-  pub unserved : (i : ℕ) → length (servings past) ≤ i → i < length (swapOrder past) → Shows (getD (recordsOf past) i []) 255 0
-  unserved i low high =
-      let d : Call = record { thread = 255; request = 255 } in
-      record-shows past i d unshown high (shown-none i d (omega (arith, applied)) (omega (arith, w .swaps)))
+  pub unserved : (i : ℕ) → g .a ≤ i → i < g .s → HasAnswer (getD (recordsOf past) i []) 255 0
+  unserved i low high = record-shows past i noCall unshown (omega (arith, w .swaps)) (shown-none i noCall low high)

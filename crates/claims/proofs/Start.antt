@@ -26,14 +26,15 @@ use Rattle.step.proofs.Soundness.{Sound}
 use Rattle.invariant.specs.View.{viewOf}
 use Rattle.invariant.proofs.Start.{Fresh}
 use Rattle.claims.specs.Entries.{filled, slotsOf, rowsOf, startOf}
-use Rattle.claims.specs.Claims.{requestOf}
+use Rattle.claims.specs.Claims.{askedBy}
 
 -- a list filled up: its length, and what stands at each place
 module _ {A : Type 0} (a : A) where
   length-filled : (k : ℕ) (l : List A) → length l ≤ k → length (filled k a l) ≡ k
   length-filled k l h = rw (length-append, length-replicate) (omega arith)
 
-  padded : (m i : ℕ) → getD (replicate m a) i a ≡ a
+  -- past the end too, where it is the default
+  pub padded : (m i : ℕ) → getD (replicate m a) i a ≡ a
   padded zero i = refl
   padded (suc m) zero = refl
   padded (suc m) (suc i) = padded m i
@@ -99,27 +100,24 @@ slot-at kind (row ∷ rows) (suc t) q e h =
 
 module _ (f : Fields) (fits : InRange f) where
   -- the requests of thread t's row, and past its end the request of an empty place
-  pub requests-start : (t q : ℕ) → q < 16 → getD (startOf f .requests) (16 * t + q) zeroSlot .request ≡ requestOf f (record { thread = t; request = q })
+  pub requests-start : (t q : ℕ) → q < 16 → getD (startOf f .requests) (16 * t + q) zeroSlot .request ≡ askedBy f (record { thread = t; request = q })
   requests-start t q h = rw filled-at (slot-at (f .head .object) (f .rows) t q (fits .rows) h)
 
   few : length (map length (f .rows)) ≤ 16
   few = rw length-map (omega (arith, fits .threads, fits .head .n))
 
-  pub thread-start : (u : ℕ) → u < 16 → getD (startOf f .threads) u zeroThread ≡ freshThread u (length (getD (f .rows) u []))
+  pub thread-start : (u : ℕ) → u < f .head .n → getD (startOf f .threads) u zeroThread ≡ freshThread u (length (getD (f .rows) u []))
   thread-start u h =
-      fresh-at 0 (filled 16 0 (map length (f .rows))) u zeroThread (rw (length-filled 0 16 (map length (f .rows)) few) h)
+      fresh-at 0 (filled 16 0 (map length (f .rows))) u zeroThread (rw (length-filled 0 16 (map length (f .rows)) few) (omega (arith, fits .head .n)))
       ∙ rw (zero-add, filled-at) (ap (freshThread u) (List·getD-map length (f .rows) u []))
 
-  pub node-start : (m : ℕ) → m < 17 → getD (startOf f .nodes) m zeroNode ≡ freshNode
+  node-start : (m : ℕ) → m < 17 → getD (startOf f .nodes) m zeroNode ≡ freshNode
   node-start m h = getD-replicate 17 m freshNode zeroNode h
-
-  pub copies-start : (l : ℕ) → getD (startOf f .copies) l 0 ≡ 0
-  copies-start l = padded 0 86 l
 
   pub fresh-start : Fresh (f .head .n) (viewOf (startOf f))
   fresh-start = record {
-    line = λ u h. rw (thread-start u (omega (arith, fits .head .n)));
-    own = λ u h. rw (thread-start u (omega (arith, fits .head .n)));
+    line = λ u h. rw (thread-start u h);
+    own = λ u h. rw (thread-start u h);
     tail = refl;
     node = refl;
   }
@@ -140,7 +138,7 @@ module _ (f : Fields) (fits : InRange f) where
   threads-fit : every (threadInRange (f .head .n) (f .head .h)) (take (f .head .n) (startOf f .threads)) ≡ true
   threads-fit =
       every-first (threadInRange (f .head .n) (f .head .h)) zeroThread (f .head .n) (startOf f .threads) (λ u h.
-      rw (thread-start u (omega (arith, fits .head .n)))
+      rw (thread-start u h)
       (let null : NodeOrNull (f .head .n) 255 = nowhere refl in
       thread-iff (f .head .n) (f .head .h) (freshThread u (length (getD (f .rows) u []))) .1 (search (arith, row-fits u h))))
 
@@ -152,7 +150,7 @@ module _ (f : Fields) (fits : InRange f) where
   rows-fit : rowsInRange (f .head .object) (startOf f .requests) 0 (take (f .head .n) (startOf f .threads)) ≡ true
   rows-fit =
       rows-first (f .head .object) (startOf f .requests) zeroThread 0 (f .head .n) (startOf f .threads) (λ t h.
-      rw (zero-add, thread-start t (omega (arith, fits .head .n)))
+      rw (zero-add, thread-start t h)
       (every-first (slotInRange (f .head .object)) zeroSlot (length (getD (f .rows) t [])) (drop (16 * t) (startOf f .requests)) (λ q k.
       rw (getD-drop, requests-start t q (omega (arith, row-fits t h .count)))
       (request-known (f .head .object) _ (each-getD (RequestInRange (f .head .object)) (getD (f .rows) t []) q (Put 0) (row-fits t h .requests) k)))))

@@ -10,69 +10,48 @@ use lib.Dec.{eqb}
 use borrow.Author.Tests.{eq-eqb, ne-eqb}
 use Rattle.object.specs.declared.Request.{Request}
 use Rattle.object.specs.declared.Answer.{Answer}
-use Rattle.machine.specs.Lines.{Line, lineOf}
+use Rattle.machine.specs.Lines.{Line}
 use Rattle.step.specs.Entry.{oneIf}
 use Rattle.step.proofs.Numbers.{number}
-use Rattle.invariant.specs.Ledger.{Ledger, swapped, noted, freshLedger}
-use Rattle.invariant.specs.View.{View, Does, goal}
-use Rattle.invariant.specs.Control.{Control}
-use Rattle.invariant.proofs.Upd.{upd-same, upd-other, by-equal, by-order}
-use Rattle.invariant.proofs.Noted.{line-at, Notes, notes}
-use Rattle.invariant.proofs.Seats.{positions-apart}
-use Rattle.invariant.proofs.Threads.{tail-node, position-below, Serves, serves}
-use Rattle.claims.specs.Entries.{Entry}
-use Rattle.claims.specs.Claims.{Call, Serving, runs, begunBy, callOf, swapOrder, callGiven, servings}
-use Rattle.claims.proofs.Goes.{goes, begun-after, stands-at}
-use Rattle.claims.proofs.History.{Tells, lastCall, Swapped, Swaps}
-use Rattle.claims.proofs.Moves.{moves, Later, later}
+use Rattle.invariant.specs.Ledger.{Ledger, noted, freshLedger}
+use Rattle.invariant.specs.View.{View}
+use Rattle.invariant.proofs.Upd.{by-equal, by-order}
+use Rattle.invariant.proofs.Noted.{Notes, notes, at-swap, at-kept, node-kept}
+use Rattle.invariant.proofs.Seats.{positions-apart, tail-node}
+use Rattle.invariant.proofs.Threads.{queued-from, at-below, serving}
+use Rattle.claims.specs.Entries.{Entry, runs}
+use Rattle.claims.specs.Claims.{Call, Serving, begunBy, callOf, swapOrder, callGiven, servings}
+use Rattle.claims.proofs.Goes.{goes, later, runs-it, runs-no}
+use Rattle.claims.proofs.History.{Happens, lastCall, Swapped, Swaps}
 
 -- what one entry adds to a list
-length-more : {A : Type 0} (b : Bool) (l : List A) (x : A) → length (l ++ cond b (x ∷ []) []) ≡ length l + oneIf b
+pub length-more : {A : Type 0} (b : Bool) (l : List A) (x : A) → length (l ++ cond b (x ∷ []) []) ≡ length l + oneIf b
 length-more true l x = length-append l (x ∷ [])
 length-more false l x = length-append l []
 
-module _ (n h : ℕ) (v v′ : View) (g : Ledger) (t : ℕ) (l : Line) (request : Request) (answer : Answer) (past : List Entry) (e : Entry) (k : ℕ)
-    (c : Control n h v g) (d : Does n h v v′ t l request answer) (tells : Tells v t l k e) (w : Swaps n v g past) where
+module _ {n h : ℕ} {v v′ : View} {g : Ledger} {t : ℕ} {l : Line} {request : Request} {answer : Answer} {past : List Entry} {e : Entry} {k : ℕ}
+    (x : Happens n h v v′ g t l request answer past e k) (w : Swaps n v g past) where
   abbrev g′ : Ledger
   g′ = noted n t (v .thread t .own .0) g l
 
   note : Notes n t (v .thread t .own .0) g (number l) g′
   note = notes n t _ g l
 
-  after : (u : ℕ) → Later t (number l) u (v .thread u .line) (v .thread u .begun) (v′ .thread u .line) (v′ .thread u .begun)
-  after u = later (moves n h v v′ t request answer l d u)
-
-  standing : 2 ≤ number l → v .thread t .line ≡ number l
-  standing = stands-at n h v v′ t request answer l d
-
-  one-more : v′ .thread t .begun ≡ v .thread t .begun + oneIf (eqb (number l) 1)
-  one-more = begun-after n h v v′ t request answer l d
-
   begun-kept : (u : ℕ) → u < n → begunBy u (e ∷ past) ≡ v′ .thread u .begun
   begun-kept u below =
       by-equal u t
-      (λ same. rw (tells .thread, tells .line, eq-eqb t u (sym same)) (omega (arith, w .begun u below, rw (← same) at one-more)))
-      (λ apart. rw (tells .thread, tells .line, ne-eqb t u (λ x. apart (sym x)), d .others u apart) (omega (arith, w .begun u below)))
+      (λ same. rw (x .tells .thread, x .tells .line, eq-eqb t u (sym same)) (omega (arith, w .begun u below, rw (← same) at (goes x .begun))))
+      (λ apart. rw (x .tells .thread, ne-eqb t u (λ q. apart (sym q)), x .does .others u apart) (omega (arith, w .begun u below)))
 
   busy-kept : (u : ℕ) → u < n → 0 < v′ .thread u .line → 0 < v′ .thread u .begun
   busy-kept u below i =
-      let f = after u in
+      let f = later x u in
       by-order (v .thread u .begun) (v′ .thread u .begun) (λ j. omega arith)
-      (λ j. let x = w .busy u below (f .busy i (omega (arith, f .more))) in omega (arith, f .more))
+      (λ j. let was = w .busy u below (f .busy i (omega (arith, f .more))) in omega (arith, f .more))
 
-  -- the entry runs its thread's line and no other
-  runs-it : (m : ℕ) → number l ≡ m → runs m e ≡ true
-  runs-it m x = eq-eqb (e .line) m (tells .line ∙ x)
-
-  runs-no : (m : ℕ) → (number l ≡ m → ⊥) → runs m e ≡ false
-  runs-no m x = ne-eqb (e .line) m (λ y. x (sym (tells .line) ∙ y))
-
-  -- the call that a Swap stands for
-  call-now : callOf e past ≡ lastCall v′ t
-  call-now = by-thread (e .thread) (tells .thread)
-    where
-      by-thread : (u : ℕ) → u ≡ t → _≡_ {A = Call} (record { thread = u; request = begunBy u (e ∷ past) - 1 }) (lastCall v′ t)
-      by-thread u same = rw same (ap (λ (q : ℕ). record { thread = t; request = q - 1 }) (begun-kept t (d .below)))
+  -- the entry is of the last call of its thread
+  pub of-last : callOf e past ≡ lastCall v′ t
+  of-last = rw (x .tells .thread) (ap (λ (q : ℕ). record { thread = t; request = q - 1 }) (rw (x .tells .thread) at (begun-kept t (x .does .below))))
 
   -- positions up to the last Swap, and the entry's own
   by-position : {P : Type 0} (i : ℕ) → i < g′ .s → (i < g .s → P) → (number l ≡ 5 → i ≡ g .s → P) → P
@@ -80,123 +59,104 @@ module _ (n h : ℕ) (v v′ : View) (g : Ledger) (t : ℕ) (l : Line) (request 
       let more = note .s in
       by-order i (g .s) old
       (λ j.
-      by-equal (number l) 5 (λ x. new x (omega (arith, rw x at more))) (λ x. absurd (omega (arith, rw (ne-eqb (number l) 5 x) at more))))
+      by-equal (number l) 5 (λ q. new q (omega (arith, rw q at more))) (λ q. absurd (omega (arith, rw (ne-eqb (number l) 5 q) at more))))
 
-  order-kept : (i : ℕ) (x : Call) → i < g .s → getD (swapOrder (e ∷ past)) i x ≡ getD (swapOrder past) i x
-  order-kept i x below = List·getD-append (swapOrder past) _ x i (omega (arith, w .swaps))
+  pub order-kept : (i : ℕ) (c : Call) → i < g .s → getD (swapOrder (e ∷ past)) i c ≡ getD (swapOrder past) i c
+  order-kept i c below = List·getD-append (swapOrder past) _ c i (omega (arith, w .swaps))
 
-  order-new : (x : Call) → number l ≡ 5 → getD (swapOrder (e ∷ past)) (g .s) x ≡ lastCall v′ t
-  order-new x swap = rw (runs-it 5 swap) (getD-at (swapOrder past) (callOf e past) [] x (g .s) (w .swaps) ∙ call-now)
+  order-new : (c : Call) → number l ≡ 5 → getD (swapOrder (e ∷ past)) (g .s) c ≡ lastCall v′ t
+  order-new c swap = rw (runs-it x 5 swap) (getD-at (swapOrder past) (callOf e past) [] c (g .s) (w .swaps) ∙ of-last)
 
-  swapped-kept : (x : Call) → Swapped n v x → Swapped n v′ x
-  swapped-kept x s =
-      let f = after (x .thread) in
+  swapped-kept : (c : Call) → Swapped n v c → Swapped n v′ c
+  swapped-kept c s =
+      let f = later x (c .thread) in
       record {
         thread = s .thread;
         begun = omega (arith, s .begun, f .more);
         calling = λ i j.
-            by-order (v .thread (x .thread) .begun) (v′ .thread (x .thread) .begun) (λ m. omega (arith, s .begun))
+            by-order (v .thread (c .thread) .begun) (v′ .thread (c .thread) .begun) (λ m. omega (arith, s .begun))
             (λ m. let p = f .calling i j (omega (arith, f .more)) in let q = s .calling (p .0) (p .1) in omega (arith, f .more));
       }
 
   -- the Swap's own call has now done it, and had not
   swapped-now : number l ≡ 5 → Swapped n v′ (lastCall v′ t)
   swapped-now swap =
-      let b = w .busy t (d .below) (omega (arith, standing (omega arith))) in
-      let next = goes n h v v′ t request answer l d .calling (omega arith) (omega arith) in
-      record { thread = d .below; begun = omega (arith, one-more); calling = λ i j. absurd (omega arith) }
+      let here = goes x .stands (omega arith) in
+      let next = goes x .swaps swap in
+      record { thread = x .does .below; begun = omega (arith, busy-kept t (x .does .below) (omega arith)); calling = λ i j. absurd (omega arith) }
 
-  not-yet : (x : Call) → number l ≡ 5 → Swapped n v x → x ≡ lastCall v′ t → ⊥
-  not-yet x swap f same =
+  not-yet : (c : Call) → number l ≡ 5 → Swapped n v c → c ≡ lastCall v′ t → ⊥
+  not-yet c swap f same =
       let last : Swapped n v (lastCall v′ t) = rw same at f in
-      let at = standing (omega arith) in
+      let here = goes x .stands (omega arith) in
       let early = last .calling (omega arith) (omega arith) in
-      omega (arith, rw swap at one-more)
+      omega (arith, goes x .same (λ q. omega arith))
 
-  -- what a Swap changes in the ledger, and leaves
-  swap-noted : number l ≡ 5 → g′ ≡ swapped n t (v .thread t .own .0) g
-  swap-noted x = note .swap (rw x tt)
-
-  at-kept : (u : ℕ) → u < n → (u ≡ t → number l ≡ 5 → ⊥) → g′ .at u ≡ g .at u
-  at-kept u below apart =
-      by-equal (number l) 5 (λ x. rw (swap-noted x, upd-other _ n _ u (λ y. omega arith), upd-other _ t _ u (λ y. apart y x)))
-      (λ x. rw (note .at (rw (ne-eqb (number l) 5 x) tt)))
-
-  at-now : number l ≡ 5 → g′ .at t ≡ g .s
-  at-now x = rw (swap-noted x, upd-other _ n _ t (λ y. omega (arith, d .below)), upd-same (g .at) t _)
-
-  node-kept : (i : ℕ) → i ≤ g .s → g′ .node i ≡ g .node i
-  node-kept i below =
-      by-equal (number l) 5 (λ x. rw (swap-noted x, upd-other _ (suc (g .s)) _ i (λ y. omega arith)))
-      (λ x. rw (note .node (rw (ne-eqb (number l) 5 x) tt)))
-
-  mine-kept : (u : ℕ) (x : Call) → u < n → 6 ≤ v′ .thread u .line → getD (swapOrder (e ∷ past)) (g′ .at u) x ≡ lastCall v′ u
-  mine-kept u x below i =
-      let f = after u in
-      by-order (v .thread u .line) 6 (λ j. let p = f .enters i j in rw (p .0, at-now (p .1)) (order-new x (p .1)))
+  mine-kept : (u : ℕ) (c : Call) → u < n → 6 ≤ v′ .thread u .line → getD (swapOrder (e ∷ past)) (g′ .at u) c ≡ lastCall v′ u
+  mine-kept u c below i =
+      let f = later x u in
+      by-order (v .thread u .line) 6 (λ j. let p = f .enters i j in rw (p .0, at-swap n t _ g l (p .1) (x .does .below)) (order-new c (p .1)))
       (λ j.
-      rw (at-kept u below (λ y z. omega (arith, f .running j y)), f .within j)
-      (order-kept (g .at u) x (position-below n h v g c u below j) ∙ w .mine u x below j))
+      let in-queue = f .within j in
+      rw (at-kept n t _ g l u below (λ q z. omega (arith, in-queue .1 q)), in-queue .0)
+      (order-kept (g .at u) c (at-below (x .control) u below (queued-from (x .control) u below j)) ∙ w .mine u c below j))
 
   -- a Swap gives Tail's node, which no earlier position has that is not released
+  given-tail : number l ≡ 5 → e .node ≡ g .node (g .s)
+  given-tail swap = x .tells .given swap ∙ tail-node (x .control)
+
   not-given : (i : ℕ) → g .r ≤ i → i < g .s → (runs 5 e && eqb (e .node) (g .node i)) ≡ false
   not-given i low high =
       by-equal (number l) 5
-      (λ x. rw (runs-it 5 x) (ne-eqb (e .node) (g .node i) (λ y.
-      let z = positions-apart n h v g c i (g .s) low (omega arith) (omega arith) (omega arith) (sym y ∙ tells .given x ∙ tail-node n h v g c) in omega arith)))
-      (λ x. rw (runs-no 5 x))
+      (λ q. rw (runs-it x 5 q) (ne-eqb (e .node) (g .node i) (λ z.
+      let same = positions-apart (x .control) i (g .s) low (omega arith) (omega arith) (omega arith) (sym z ∙ given-tail q) in omega arith)))
+      (λ q. rw (runs-no x 5 q))
 
-  given-now : number l ≡ 5 → callGiven (g .node (g .s)) (e ∷ past) ≡ lastCall v′ t
-  given-now x = rw (runs-it 5 x, eq-eqb (e .node) (g .node (g .s)) (tells .given x ∙ tail-node n h v g c)) call-now
-
-  given-kept : (i : ℕ) (x : Call) → g′ .r ≤ i → i < g′ .s → callGiven (g′ .node i) (e ∷ past) ≡ getD (swapOrder (e ∷ past)) i x
-  given-kept i x low high =
+  given-kept : (i : ℕ) (c : Call) → g′ .r ≤ i → i < g′ .s → callGiven (g′ .node i) (e ∷ past) ≡ getD (swapOrder (e ∷ past)) i c
+  given-kept i c low high =
       let more = note .r in
       by-position i high
       (λ j.
-      rw (node-kept i (omega arith), order-kept i x j, not-given i (omega arith) j) (w .given i x (omega arith) j))
-      (λ swap same. rw (same, node-kept (g .s) (omega arith), order-new x swap) (given-now swap))
+      rw (node-kept n t _ g l i (omega arith), order-kept i c j, not-given i (omega arith) j) (w .given i c (omega arith) j))
+      (λ swap same.
+      rw (same, node-kept n t _ g l (g .s) (omega arith), order-new c swap, runs-it x 5 swap, eq-eqb (e .node) (g .node (g .s)) (given-tail swap)) of-last)
 
   -- line 16 serves the call of the first position whose request is not applied
-  serving : number l ≡ 16 → Serves v g t
-  serving is = serves n h v g c t (d .below) (standing (omega arith) ∙ is)
-
-  serves-next : number l ≡ 16 → (x : Call) → callGiven (e .node) past ≡ getD (swapOrder past) (g .a) x
-  serves-next is x =
-      let f = serving is in
-      let target : goal v t l ≡ v .thread t .tmp .0 = ap (goal v t) (sym (line-at l) ∙ ap lineOf is) in
-      rw (tells .serves is, target, f .node, f .next) (w .given (g .r) x (omega arith) (f .below))
+  pub serves-next : number l ≡ 16 → (c : Call) → callGiven (e .node) past ≡ getD (swapOrder past) (g .a) c
+  serves-next q c =
+      let f = serving (x .control) (x .does) q in
+      rw (x .tells .serves q, f .node) (w .given (g .a) c (omega (arith, x .control .order)) (f .below))
 
   served-kept : map (λ (w : Serving). w .call) (servings (e ∷ past)) ≡ take (g′ .a) (swapOrder (e ∷ past))
   served-kept =
       by-equal (number l) 16
-      (λ is.
-      let more : g′ .a ≡ suc (g .a) = omega (arith, rw is at (note .a)) in
-      let high : suc (g .a) ≤ length (swapOrder past) = omega (arith, serving is, w .swaps) in
+      (λ q.
+      let more : g′ .a ≡ suc (g .a) = omega (arith, rw q at (note .a)) in
+      let high : suc (g .a) ≤ length (swapOrder past) = omega (arith, serving (x .control) (x .does) q .below, w .swaps) in
       rw (
-        runs-it 16 is,
+        runs-it x 16 q,
         more,
         take-append-le (suc (g .a)) (swapOrder past) _ high,
         take-suc (swapOrder past) (g .a) (lastCall v t) high,
         ← w .served,
-        ← serves-next is (lastCall v t),
+        ← serves-next q (lastCall v t),
       )
       (map-append _ (servings past) _))
-      (λ apart.
-      let same : g′ .a ≡ g .a = omega (arith, rw (ne-eqb (number l) 16 apart) at (note .a)) in
-      let high : g .a ≤ length (swapOrder past) = omega (arith, w .swaps, c .order) in
-      rw (runs-no 16 apart, append-nil, same, take-append-le (g .a) (swapOrder past) _ high) (w .served))
+      (λ q.
+      let same : g′ .a ≡ g .a = omega (arith, rw (ne-eqb (number l) 16 q) at (note .a)) in
+      let high : g .a ≤ length (swapOrder past) = omega (arith, w .swaps, x .control .order) in
+      rw (runs-no x 16 q, append-nil, same, take-append-le (g .a) (swapOrder past) _ high) (w .served))
 
   pub swaps-kept : Swaps n v′ (noted n t (v .thread t .own .0) g l) (e ∷ past)
   swaps-kept = record {
     begun = begun-kept;
     busy = busy-kept;
-    swaps = length-more (runs 5 e) (swapOrder past) (callOf e past) ∙ rw (tells .line) (omega (arith, w .swaps, note .s));
-    swapped = λ i x below.
-        by-position i below (λ j. rw (order-kept i x j) (swapped-kept _ (w .swapped i x j))) (λ swap same. rw (same, order-new x swap) (swapped-now swap));
-    once = λ i j x below high.
-        by-position j high (λ y. rw (order-kept i x (omega arith), order-kept j x y) (w .once i j x below y))
-        (λ swap last. rw (last, order-kept i x (omega arith), order-new x swap) (not-yet _ swap (w .swapped i x (omega arith))));
+    swaps = length-more (runs 5 e) (swapOrder past) (callOf e past) ∙ rw (x .tells .line) (omega (arith, w .swaps, note .s));
+    swapped = λ i c below.
+        by-position i below (λ j. rw (order-kept i c j) (swapped-kept _ (w .swapped i c j))) (λ swap same. rw (same, order-new c swap) (swapped-now swap));
+    once = λ i j c below high.
+        by-position j high (λ m. rw (order-kept i c (omega arith), order-kept j c m) (w .once i j c below m))
+        (λ swap last. rw (last, order-kept i c (omega arith), order-new c swap) (not-yet _ swap (w .swapped i c (omega arith))));
     mine = mine-kept;
     given = given-kept;
     served = served-kept;

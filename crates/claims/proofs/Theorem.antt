@@ -1,9 +1,7 @@
 -- Demand 3, for every file and every cut of its schedule. Assumes nothing.
-use Prim.Native.Nat.{ℕ, _<_}
-use native.Mathlib.Omega.{arith}
-use mathlib.Core.Path.{_≡_, refl, ap, _∙_}
+use Prim.Native.Nat.{ℕ}
+use mathlib.Core.Path.{_≡_, refl, ap}
 use mathlib.Core.List.{List, [], reverse}
-use lib.ListN.{length, getD, take}
 use Rattle.machine.specs.declared.Thread.{Thread}
 use Rattle.bench_file.specs.Layout.{Fields, accepted, judgeOf}
 use Rattle.bench_file.specs.Bytes.{Each, Byte, InRange}
@@ -13,7 +11,7 @@ use Rattle.invariant.specs.View.{viewOf}
 use Rattle.invariant.proofs.Data.{data-fresh}
 use Rattle.invariant.proofs.Remote.{remote-fresh}
 use Rattle.invariant.proofs.Start.{control-fresh}
-use Rattle.claims.specs.Entries.{startOf, stateAfter, entriesOf}
+use Rattle.claims.specs.Entries.{startOf}
 use Rattle.claims.specs.Claims.{Demand3Of}
 use Rattle.claims.proofs.Calls.{calls-fresh}
 use Rattle.claims.proofs.CopiesSaid.{copies-fresh}
@@ -38,14 +36,16 @@ module _ (f : Fields) (fits : InRange f) where
         control = control-fresh n (f .head .h) v fresh;
         remote = remote-fresh (fresh .line);
         object = data-fresh n (asks f) (f .head .object) (f .head .capacity) v (fresh .line);
-        swaps = swaps-fresh n v (fresh .line) (λ u b. ap (λ (th : Thread). th .begun) (thread-start f fits u (omega (arith, fits .head .n))));
+        swaps = swaps-fresh n v (fresh .line) (λ u b. ap (λ (th : Thread). th .begun) (thread-start f fits u b));
         turns = turns-fresh n (f .head .h) v (fresh .line);
         calls = calls-fresh n v (λ u. 0) (fresh .line);
         copies = copies-fresh n;
         said = tt;
-        rows = λ u b. ap (λ (th : Thread). th .count) (thread-start f fits u (omega (arith, fits .head .n)));
+        rows = λ u b. ap (λ (th : Thread). th .count) (thread-start f fits u b);
         asked = refl;
         by-combiner = refl;
+        servers = tt;
+        blanks = refl;
       }
 
   pub demand-3 : Demand3Of f

@@ -1,15 +1,12 @@
 -- The entry of a real state tells what its line does. Assumes a sound state and a thread below n.
-use Prim.Native.Nat.{ℕ, _<_}
+use Prim.Native.Nat.{_<_}
 use native.Mathlib.Omega.{arith}
-use mathlib.Core.Path.{_≡_, refl, sym, _∙_}
-use mathlib.Core.List.{List}
-use lib.Dec.{eqb}
+use mathlib.Core.Path.{refl, sym, _∙_}
 use borrow.Author.Tests.{eq-eqb, ne-eqb}
 use Rattle.machine.specs.declared.ThreadId.{ThreadId}
 use Rattle.machine.specs.Lines.{lineOf}
 use Rattle.state.specs.declared.State.{State}
 use Rattle.step.specs.Entry.{line, accesses, references}
-use Rattle.step.proofs.Numbers.{number}
 use Rattle.step.proofs.Soundness.{Sound}
 use Rattle.invariant.specs.View.{viewOf}
 use Rattle.invariant.proofs.Bridge.{number-line}

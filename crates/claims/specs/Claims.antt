@@ -1,10 +1,11 @@
--- Demand 3 of document 01: one claim about the whole list of entries of a file's run. Each definition reads the file and the entries alone.
+-- Demand 3 of document 01: one claim about the whole list of entries of a file's run. Up to `Holds` each definition reads the file and the entries
+-- alone; `Demand3` ties them to the machine. The parts: 1 what is served, 2 the records, 3 the combiner, 4 turns, 5 remote references, 6 no refusal.
 use Prim.Native.Nat.{ℕ, _+_, _-_, _*_, _≤_, _<_, _^_}
 use mathlib.Core.Path.{_≡_}
 use mathlib.Core.Bool.{Bool, true, false, cond, not, _&&_, _||_}
 use mathlib.Core.List.{List, [], _∷_, _++_, map, reverse}
 use lib.ListN.{length, getD, take, drop}
-use lib.Dec.{eqb}
+use lib.Dec.{ltb, eqb}
 use Rattle.object.specs.declared.Request.{Request}
 use Rattle.object.specs.declared.Request.the-variants.{Put}
 use Rattle.object.specs.declared.Answer.{Answer}
@@ -12,7 +13,7 @@ use Rattle.object.specs.declared.Answer.the-variants.{Empty}
 use Rattle.object.specs.Paper.{answerMark, answerValue}
 use Rattle.object.specs.Plain.{fresh, answersFrom}
 use Rattle.bench_file.specs.Layout.{Fields}
-use Rattle.bench_file.specs.Bytes.{lowFirst, InRange}
+use Rattle.bench_file.specs.Bytes.{lowFirst, Each, Byte, InRange}
 use Rattle.machine.specs.declared.Announced.{Announced}
 use Rattle.machine.specs.declared.Announced.the-variants.{Asked}
 use Rattle.machine.specs.declared.RetVal.{RetVal}
@@ -21,17 +22,7 @@ use Rattle.state.specs.declared.Counts.{Counts}
 use Rattle.state.specs.declared.State.{State}
 use Rattle.step.specs.Entry.{oneIf}
 use Rattle.step.specs.Steps.{stepsOf}
-use Rattle.claims.specs.Entries.{Entry, startOf, stateAfter, entriesOf, cut, sumOver, happened, inOrder, latest, RemoteAsSaid}
-
--- whether an entry runs printed line k (0: it is a blank), and whether it is thread t that runs it
-abbrev pub runs : ℕ → Entry → Bool
-runs k e = eqb (e .line) k
-
-abbrev pub runsBy : ℕ → ℕ → Entry → Bool
-runsBy t k e = eqb (e .thread) t && runs k e
-
-abbrev pub howMany : ℕ → List Entry → ℕ
-howMany k = sumOver (λ e past. oneIf (runs k e))
+use Rattle.claims.specs.Entries.{Entry, startOf, stateAfter, entriesOf, cut, sumOver, happened, inOrder, latest, runs, runsBy, howMany, remoteIn, RemoteAsSaid}
 
 -- a call: its thread, and the number of its request within it
 pub record Call : Type 0 where
@@ -97,11 +88,6 @@ servings = inOrder (λ e past. cond (runs 16 e) (servingOf e past ∷ []) [])
 abbrev pub servedIn : ℕ → List Entry → ℕ
 servedIn turn = sumOver (λ e past. oneIf (runs 16 e && eqb (turnOf (e .thread) past) turn))
 
--- how many accesses of an entry are remote
-abbrev pub remoteIn : List Bool → ℕ
-remoteIn [] = 0
-remoteIn (remote ∷ l) = oneIf remote + remoteIn l
-
 -- a call's remote references: the remote accesses of its entries, line 1 on
 abbrev pub costOf : Call → List Entry → ℕ
 costOf c = sumOver (λ e past. cond (isOf c e past) (remoteIn (e .remote)) 0)
@@ -117,21 +103,23 @@ combined c = happened (λ e past. isOf c e past && runs 12 e)
 abbrev pub returns : Call → List Entry → RetVal
 returns c = latest NoAnswer (λ e past. isOf c e past && (runs 11 e || runs 21 e)) (λ e past. e .ret)
 
--- how a call was served, as its record shows it: mark, serving thread, value and turn; before serving 255, 255, 0 and 65,535
+-- how a call was served: with which answer, by which thread and in which turn. Before serving a record shows 255 and 65,535 for the latter two
 pub record Shown : Type 0 where
-  pub mark : ℕ
+  pub ret : RetVal
   pub server : ℕ
-  pub value : ℕ
   pub turn : ℕ
 
 abbrev pub shown : Serving → Shown
-shown w = record { mark = answerMark (w .answer); server = w .server; value = answerValue (w .answer); turn = w .turn }
+shown w = record { ret = Answered (w .answer); server = w .server; turn = w .turn }
+
+abbrev pub unshown : Shown
+unshown = record { ret = NoAnswer; server = 255; turn = 65535 }
 
 abbrev pub shownOf : Call → List Serving → Shown
-shownOf c [] = record { mark = 255; server = 255; value = 0; turn = 65535 }
+shownOf c [] = unshown
 shownOf c (w ∷ served) = cond (same c (w .call)) (shown w) (shownOf c served)
 
--- the mark and the value of a ret
+-- mark and value, 255 and 0 before serving
 abbrev pub retMark : RetVal → ℕ
 retMark NoAnswer = 255
 retMark (Answered answer) = answerMark answer
@@ -144,7 +132,7 @@ retValue (Answered answer) = answerValue answer
 abbrev pub recordOf : List Entry → Call → List ℕ
 recordOf run c =
     let w = shownOf c (servings run) in
-    c .thread ∷ c .request ∷ w .mark ∷ w .server ∷ lowFirst 4 (w .value) ++ lowFirst 4 (costOf c run)
+    c .thread ∷ c .request ∷ retMark (w .ret) ∷ w .server ∷ lowFirst 4 (retValue (w .ret)) ++ lowFirst 4 (costOf c run)
     ++ oneIf (returned c run) ∷ lowFirst 2 (w .turn) ++ 0 ∷ []
 
 -- one record for each Swap, in Swap order
@@ -162,49 +150,59 @@ countsOf run = record {
 }
 
 -- the answers of the plain object of the file's kind and capacity, fed the file's requests in Swap order and nothing else
-abbrev pub requestOf : Fields → Call → Request
-requestOf f c = getD (getD (f .rows) (c .thread) []) (c .request) (Put 0)
+abbrev pub askedBy : Fields → Call → Request
+askedBy f c = getD (getD (f .rows) (c .thread) []) (c .request) (Put 0)
 
 abbrev pub plainAnswers : Fields → List Entry → List Answer
-plainAnswers f run = answersFrom (f .head .object) (f .head .capacity) fresh (map (requestOf f) (swapOrder run))
+plainAnswers f run = answersFrom (f .head .object) (f .head .capacity) fresh (map (askedBy f) (swapOrder run))
+
+-- what no entry does: give a blank while its thread has a request left, apply a request outside a turn of its thread
+abbrev pub earlyBlank : Fields → Entry → List Entry → Bool
+earlyBlank f e past = runs 0 e && ltb (begunBy (e .thread) past) (length (getD (f .rows) (e .thread) []))
+
+abbrev pub outsideTurn : Entry → List Entry → Bool
+outsideTurn e past = runs 16 e && not (combines (e .thread) past)
 
 -- bytes 2 and 4 to 7 of a record are a mark and a value
-abbrev pub Shows : List ℕ → ℕ → ℕ → Type 0
-Shows bytes mark value = (getD bytes 2 0 ≡ mark) × (take 4 (drop 4 bytes) ≡ lowFirst 4 value)
+abbrev pub HasAnswer : List ℕ → ℕ → ℕ → Type 0
+HasAnswer bytes mark value = (getD bytes 2 0 ≡ mark) × (take 4 (drop 4 bytes) ≡ lowFirst 4 value)
 
 -- a returned call: it was served, by its own thread exactly if it combined, and then in its own turn; it returns the answer that it was served;
 -- served by another thread it has at most 10 remote references, and having combined and served k at most 5k + 7
-pub record Settles (run : List Entry) (c : Call) (w : Shown) : Type 0 where
-  pub served : w .mark < 255
+pub record ReturnedCall (run : List Entry) (c : Call) (w : Shown) : Type 0 where
+  pub served : retMark (w .ret) < 255
   pub by-itself : eqb (w .server) (c .thread) ≡ combined c run
   pub own-turn : combined c run ≡ true → w .turn ≡ turnOfCall c run
-  pub answer : (retMark (returns c run) ≡ w .mark) × (retValue (returns c run) ≡ w .value)
+  pub answer : returns c run ≡ w .ret
   pub by-another : eqb (w .server) (c .thread) ≡ false → costOf c run ≤ 10
   pub combining : combined c run ≡ true → costOf c run ≤ 5 * servedIn (turnOfCall c run) run + 7
 
 -- the claim about a file and the entries of its run, with s Swaps done and a requests applied
 pub record Holds (f : Fields) (run : List Entry) (s a : ℕ) : Type 0 where
-  -- there are s records; each Swap's call is one of the file's, and no call does two
-  pub swaps : length (recordsOf run) ≡ s
+  -- each Swap's call is one of the file's, no call does two, and no blank comes while a request is left
   pub of-the-file : (i : ℕ) → i < s → swapAt run i .request < length (getD (f .rows) (swapAt run i .thread) [])
   pub distinct : (i k : ℕ) → i < k → k < s → swapAt run i ≡ swapAt run k → ⊥
-  -- 1: the calls served, in order, are the first a of Swap order, each with its own request
-  pub applied : a ≤ s
+  pub blanks : happened (earlyBlank f) run ≡ false
+  -- 1: the calls served, in order, are the first a of Swap order, each with its own request, and the answers are the plain object's
+  pub at-most-swapped : a ≤ s
   pub in-swap-order : map (λ (w : Serving). w .call) (servings run) ≡ take a (swapOrder run)
-  pub requests : map (λ (w : Serving). w .req) (servings run) ≡ map (λ (c : Call). Asked (requestOf f c)) (take a (swapOrder run))
-  -- 2: record i shows the plain object's answer i, or none from a on, and names the thread and request of Swap i
-  pub answered : (i : ℕ) → i < a
-      → Shows (getD (recordsOf run) i []) (answerMark (getD (plainAnswers f run) i Empty)) (answerValue (getD (plainAnswers f run) i Empty))
-  pub unserved : (i : ℕ) → a ≤ i → i < s → Shows (getD (recordsOf run) i []) 255 0
+  pub requests : map (λ (w : Serving). w .req) (servings run) ≡ map (λ (c : Call). Asked (askedBy f c)) (take a (swapOrder run))
+  pub answers : map (λ (w : Serving). w .answer) (servings run) ≡ take a (plainAnswers f run)
+  -- 2: there are s records of 16 bytes. Record i names the thread and request of Swap i and shows the plain object's answer i, or none from a on
+  pub records : length (recordsOf run) ≡ s
+  pub bytes : Each (λ (bytes : List ℕ). (length bytes ≡ 16) × Each Byte bytes) (recordsOf run)
   pub named : (i : ℕ) → i < s → take 2 (getD (recordsOf run) i []) ≡ swapAt run i .thread ∷ swapAt run i .request ∷ []
+  pub answered : (i : ℕ) → i < a
+      → HasAnswer (getD (recordsOf run) i []) (answerMark (getD (plainAnswers f run) i Empty)) (answerValue (getD (plainAnswers f run) i Empty))
+  pub unserved : (i : ℕ) → a ≤ i → i < s → HasAnswer (getD (recordsOf run) i []) 255 0
   -- 3: at most one thread is combiner, and no other applies a request
   pub one-combiner : (t u : ℕ) → combines t run ≡ true → combines u run ≡ true → t ≡ u
-  pub combiner-applies : happened (λ e past. runs 16 e && not (combines (e .thread) past)) run ≡ false
+  pub combiner-applies : happened outsideTurn run ≡ false
   -- 4: no turn has served more than h; a turn's number has 16 bits and is not 65,535
   pub at-most-h : (turn : ℕ) → servedIn turn run ≤ f .head .h
   pub turns-fit : howMany 12 run < 65535
-  -- 5: the bounds; bytes 8 to 11 are a call's remote references, and each access is remote as document 01 says
-  pub settled : (c : Call) → returned c run ≡ true → Settles run c (shownOf c (servings run))
+  -- 5: the bounds; bytes 8 to 11 are a call's remote references, which have 32 bits; and each access is remote as document 01 says
+  pub settled : (c : Call) → returned c run ≡ true → ReturnedCall run c (shownOf c (servings run))
   pub cost : (i : ℕ) → i < s → take 4 (drop 8 (getD (recordsOf run) i [])) ≡ lowFirst 4 (costOf (swapAt run i) run)
   pub cost-fits : (c : Call) → costOf c run < 2 ^ 32
   pub remote : RemoteAsSaid run
@@ -219,6 +217,6 @@ pub record Demand3 (f : Fields) (j : ℕ) (run : List Entry) (after : State) : T
   pub stopped : reverse (entriesOf (cut j f)) ≡ run
   pub cut-file : InRange (cut j f)
 
--- for every file and every j
+-- a file's claim, for every j; from the schedule's length on that is the whole run. The theorem is for all fields in range
 abbrev pub Demand3Of : Fields → Type 0
 Demand3Of f = (j : ℕ) → Demand3 f j (reverse (take j (entriesOf f))) (stateAfter (startOf f) (take j (f .schedule)))

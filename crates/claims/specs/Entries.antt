@@ -16,11 +16,11 @@ use Rattle.copies.specs.Remote.{place, located, holds, copiesAfter}
 use Rattle.state.specs.declared.Slot.{Slot}
 use Rattle.state.specs.declared.State.{State}
 use Rattle.state.specs.Fresh.{freshState}
-use Rattle.step.specs.Entry.{zeroSlot, line, target, node, applied, accesses, entered}
+use Rattle.step.specs.Entry.{zeroSlot, oneIf, line, target, node, applied, accesses, entered}
 
--- an entry: the thread that the schedule names and the printed line that it runs, 0 for a blank; the node that a Swap gives, else the one
--- that the line points to; its accesses in order, and for each whether it is remote; whether it is a spin; the req and the ret of the node
--- that it points to, as it finds them; and the object's answer, where line 16 applies that req
+-- an entry: the thread that the schedule names and the printed line that it runs, 0 for a blank; at line 5 the node that the Swap gives, else
+-- the node of the table's row (of a line without access, the own node); its accesses in order, and for each whether it is remote; whether it
+-- is a spin; req and ret of the row's node, as the entry finds them (read by 16, and by 11 and 21); the object's answer at 16, else `Empty`
 pub record Entry : Type 0 where
   pub thread : ℕ
   pub line : ℕ
@@ -33,9 +33,9 @@ pub record Entry : Type 0 where
   pub answer : Answer
 
 -- an access is remote if its thread has no valid copy of the location
-abbrev pub remoteOnes : ℕ → ℕ → List ℕ → List Access → List Bool
-remoteOnes n t copies [] = []
-remoteOnes n t copies (a ∷ accesses) = not (holds copies t (located a)) ∷ remoteOnes n t (copiesAfter n t a copies) accesses
+abbrev pub remoteMarks : ℕ → ℕ → List ℕ → List Access → List Bool
+remoteMarks n t copies [] = []
+remoteMarks n t copies (a ∷ accesses) = not (holds copies t (located a)) ∷ remoteMarks n t (copiesAfter n t a copies) accesses
 
 -- what the entry of a thread does in a state, by Algorithm 1
 abbrev pub entryOf : State → ThreadId → Entry
@@ -44,7 +44,7 @@ entryOf s t = record {
   line = line s t;
   node = cond (eqb (line s t) 5) (s .tail .0) (target s t .0);
   accesses = accesses s t;
-  remote = remoteOnes (s .n) (t .0) (s .copies) (accesses s t);
+  remote = remoteMarks (s .n) (t .0) (s .copies) (accesses s t);
   spins = eqb (line s t) 9 && node s t .wait;
   req = node s t .req;
   ret = node s t .ret;
@@ -55,6 +55,7 @@ entryOf s t = record {
 abbrev pub filled : {A : Type 0} → ℕ → A → List A → List A
 filled k a l = l ++ replicate (k - length l) a
 
+-- a thread's requests on 16 places, and those of all threads
 abbrev pub slotsOf : List Request → List Slot
 slotsOf row = filled 16 zeroSlot (map (λ (request : Request). record { request = request }) row)
 
@@ -107,22 +108,39 @@ abbrev pub latest : {A : Type 0} → A → (Entry → List Entry → Bool) → (
 latest none test gives [] = none
 latest none test gives (e ∷ past) = cond (test e past) (gives e past) (latest none test gives past)
 
+-- whether an entry runs printed line k (0: it is a blank), and whether it is thread t that runs it
+abbrev pub runs : ℕ → Entry → Bool
+runs k e = eqb (e .line) k
+
+abbrev pub runsBy : ℕ → ℕ → Entry → Bool
+runsBy t k e = eqb (e .thread) t && runs k e
+
+-- how many entries run a line
+abbrev pub howMany : ℕ → List Entry → ℕ
+howMany k = sumOver (λ e past. oneIf (runs k e))
+
+-- how many accesses of an entry are remote
+abbrev pub remoteIn : List Bool → ℕ
+remoteIn [] = 0
+remoteIn (remote ∷ l) = oneIf remote + remoteIn l
+
 -- a write or a Swap ends the copies of the other threads
 abbrev pub writing : Access → Bool
 writing (read l) = false
 writing (write l) = true
 writing (swap l) = true
 
--- whether accesses of thread u settle if thread t has a copy of a location: by an access of its own it has, by another's write or Swap not
-abbrev pub settles : ℕ → Location → ℕ → List Access → Bool
-settles t l u [] = false
-settles t l u (a ∷ accesses) = eqb (place (located a)) (place l) && (eqb u t || writing a) || settles t l u accesses
+-- whether accesses of thread u decide if thread t has a copy of a location: by an access of its own it has, by another's write or Swap not.
+-- Locations are one if their places are (`place-injective` in copies/proofs/Holding.antt)
+abbrev pub decides : ℕ → Location → ℕ → List Access → Bool
+decides t l u [] = false
+decides t l u (a ∷ accesses) = eqb (place (located a)) (place l) && (eqb u t || writing a) || decides t l u accesses
 
 -- a thread has a valid copy of a location: document 01, 'Remote references', from the accesses of the entries alone
 abbrev pub validCopy : ℕ → Location → List Entry → Bool
-validCopy t l = latest false (λ e past. settles t l (e .thread) (e .accesses)) (λ e past. eqb (e .thread) t)
+validCopy t l = latest false (λ e past. decides t l (e .thread) (e .accesses)) (λ e past. eqb (e .thread) t)
 
--- an access is remote exactly if its thread has no valid copy. No entry accesses a location twice, so the copies before it decide
+-- an access is remote exactly if its thread has no valid copy. No line accesses a location twice, so the copies before the entry decide
 abbrev pub RemoteAsSaid : List Entry → Type 0
 RemoteAsSaid [] = Unit
 RemoteAsSaid (e ∷ past) =

@@ -1,49 +1,36 @@
 -- From lists to functions: what the entry of a thread does to a state is what its line does to the view. Assumes a sound state and a thread below n.
-use Prim.Native.Nat.{_≤_, _<_}
+use Prim.Native.Nat.{_<_}
 use native.Mathlib.Omega.{arith}
 use mathlib.Core.Path.{_≡_, refl}
 use lib.Dec.{ltb}
-use lib.ListN.{length}
 use lib.Seq.{getD-set-same, getD-set-other}
 use borrow.Author.Tests.{ltb-true}
 use Rattle.machine.specs.declared.ThreadId.{ThreadId}
 use Rattle.machine.specs.Lines.{lineOf}
 use Rattle.state.specs.declared.State.{State}
-use Rattle.state.specs.Range.{threadInRange}
-use Rattle.state.proofs.Kept.{first-at}
-use Rattle.state.proofs.RangeFacts.{ThreadFits, thread-iff, state-fits}
+use Rattle.state.proofs.RangeFacts.{state-fits}
 use Rattle.step.specs.Entry.{zeroThread, zeroNode, named, line, target, request, applied, effect, entered}
-use Rattle.step.proofs.Numbers.{number, number-of, Runs, runs}
-use Rattle.step.proofs.Outcome.{target-in-range}
+use Rattle.step.proofs.Numbers.{number, number-of, Runs}
+use Rattle.step.proofs.Outcome.{room, runs-line, target-in-range}
 use Rattle.step.proofs.Soundness.{Sound}
 use Rattle.invariant.specs.View.{viewOf, Does}
 
 module _ (s : State) (t : ThreadId) (sound : Sound s) (below : t .0 < s .n) where
-  room : s .n ≤ length (s .threads)
-  room = omega (arith, state-fits s (sound .range) .small, sound .shape .threads)
-
-  -- what the ranges say of the thread
-  pub thread-fits : ThreadFits (s .n) (s .h) (named s t) (named s t .line)
-  thread-fits =
-      thread-iff (s .n) (s .h) (named s t) .0
-      (first-at (threadInRange (s .n) (s .h)) (s .n) (s .threads) (t .0) (state-fits s (sound .range) .threads) below room zeroThread)
-
-  -- where it stands that runs its line
-  pub runs-line : Runs (named s t .line) (ltb (named s t .begun) (named s t .count)) (line s t)
-  runs-line = runs (named s t .line) (ltb (named s t .begun) (named s t .count)) (thread-fits .a-line)
+  ran : Runs (named s t .line) (ltb (named s t .begun) (named s t .count)) (line s t)
+  ran = runs-line s t (sound .shape) (sound .range) below
 
   pub number-line : number (lineOf (line s t)) ≡ line s t
-  number-line = number-of (line s t) (runs-line .printed)
+  number-line = number-of (line s t) (ran .printed)
 
   -- an idle thread that begins a call has a request left
   pub idle-begins : line s t ≡ 1 → named s t .begun < named s t .count
-  idle-begins e = ltb-true _ _ (runs-line .begins e)
+  idle-begins e = ltb-true _ _ (ran .begins e)
 
   pub does-of : Does (s .n) (s .h) (viewOf s) (viewOf (entered s t)) (t .0) (lineOf (line s t)) (request s t) (applied s t .answer)
   does-of = record {
     below = below;
-    stands = rw number-line (runs-line .stands);
-    mine = getD-set-same (s .threads) (t .0) (effect s t .thread) zeroThread (omega (arith, room));
+    stands = rw number-line (ran .stands);
+    mine = getD-set-same (s .threads) (t .0) (effect s t .thread) zeroThread (omega (arith, room s t (sound .shape) (sound .range) below));
     others = λ u apart. getD-set-other (s .threads) (t .0) u (effect s t .thread) zeroThread apart;
     there =
         getD-set-same (s .nodes) (target s t .0) (effect s t .node) zeroNode

@@ -6,6 +6,7 @@ use mathlib.Core.Bool.{Bool, true, false, not, _||_, false≢true}
 use mathlib.Core.List.{List, [], _∷_}
 use lib.Dec.{T, T-not}
 use lib.ListN.{length}
+use lib.Ieee.Bits.{is-true}
 use borrow.Author.Tests.{eqb-true, le-ltb, not-false}
 use Rattle.object.specs.declared.Request.{Request}
 use Rattle.object.specs.declared.Answer.{Answer}
@@ -17,18 +18,18 @@ use Rattle.machine.specs.declared.SharedAccess.{SharedAccess}
 use Rattle.machine.specs.declared.SharedAccess.the-variants.{NoAccess, Read, Write, Swap}
 use Rattle.machine.specs.Lines.{Line, Blank, L1, L2, L3, L4, L5, L6, L7, L8, L9, L10, L11, L12, L13, L14, L15, L16, L17, L18, L19, L20, L21, rowOf, pointed, Location, tail, part, Access, read, write, accessTo, accessesOf}
 use Rattle.machine.proofs.Written.{writtenFrom, told}
-use Rattle.step.proofs.Numbers.{number, standsAt}
-use Rattle.copies.specs.Remote.{fieldNumber, place, located}
-use Rattle.copies.proofs.Holding.{Ends}
+use Rattle.step.proofs.Numbers.{number, EachOf, standsAt}
+use Rattle.copies.specs.Remote.{place, located}
+use Rattle.copies.proofs.Holding.{field-number-below, Ends}
 use Rattle.invariant.specs.Stages.{Stage, Out, Wait as Waiting, Combine, o2, o3, o4, w6, w7, w9, w10, w11, c13, c15, c16, c17, c18, c20, out, wait, combine, l19, l21, dummy, stageOf, queued}
 use Rattle.invariant.specs.Ledger.{Ledger}
 use Rattle.invariant.specs.View.{View, Does, goal}
 use Rattle.invariant.specs.Control.{Slot, slot, slotOfThread, held, waitRow, StageFacts, Order, Control}
 use Rattle.invariant.specs.Remote.{among}
-use Rattle.invariant.proofs.Upd.{by-equal, is-true}
+use Rattle.invariant.proofs.Upd.{by-equal}
 use Rattle.invariant.proofs.Slots.{in-queue}
 use Rattle.invariant.proofs.Seats.{holding, holds, now, stage-at, node-bound, owner, whose}
-use Rattle.invariant.proofs.Copies.{either, Each, each-map, each-split, Misses, Placed}
+use Rattle.invariant.proofs.Copies.{either, each-map, each-split, Misses, Placed}
 
 -- the node that thread t's line points to, and the line's accesses
 abbrev pub aimed : View → ℕ → Line → NodeId
@@ -51,7 +52,7 @@ pub record Standing (n h : ℕ) (v : View) (g : Ledger) (u : ℕ) (s : Stage) : 
   pub facts : StageFacts h g u s (slotOfThread (v .thread u)) (v .node (holding s (v .thread u)))
 
 pub standing : {n h : ℕ} {v : View} {g : Ledger} → Control n h v g → (u : ℕ) → u < n → Standing n h v g u (stageOf (v .thread u .line))
-standing {n} {h} {v} {g} c u k = record { below = k; node = holds n h v g c u _ k refl; facts = now n h v g c u _ k refl }
+standing {n} {h} {v} {g} c u k = record { below = k; node = holds c u _ k refl; facts = now c u _ k refl }
 
 -- the fields of a queued node that only its holder writes
 abbrev pub unserved : List Field
@@ -78,15 +79,8 @@ settled h g u l19 x y order q f e = f .1 .0 .turn
 settled h g u l21 x y order q f e = absurd (omega (arith, f .1 .past, order .turn))
 settled h g u dummy x y order q f e = absurd q
 
-below-five : (f : Field) → fieldNumber f < 5
-below-five Req = omega arith
-below-five Ret = omega arith
-below-five Wait = omega arith
-below-five Completed = omega arith
-below-five Next = omega arith
-
 -- an access that writes no wait leaves it
-wait-left : (m : NodeId) (a : SharedAccess) (x y : Node) → Each (Misses (part m Wait)) (accessTo m a) → writtenFrom a y x .wait ≡ x .wait
+wait-left : (m : NodeId) (a : SharedAccess) (x y : Node) → EachOf (Misses (part m Wait)) (accessTo m a) → writtenFrom a y x .wait ≡ x .wait
 wait-left m NoAccess x y h = refl
 wait-left m (Read f) x y h = refl
 wait-left m (Write Req) x y h = refl
@@ -134,7 +128,7 @@ module _ {n h : ℕ} {v v′ : View} {g : Ledger} {t : ℕ} {l : Line} {request 
         let same : m ≡ v .thread u .cur = cc in
         let field : z′ ≡ z = cc in
         let mine : held (slot n v u) ≡ g .node (g .r) = rw (stand .node, is-true (queued s) q, ← same) i in
-        far (whose n h v g (en .control) u (g .r) (omega (arith, stand .below)) (omega arith) swapped-in mine) j (rw field at k) (rw (field, same) at w)
+        far (whose (en .control) u (g .r) (omega (arith, stand .below)) (omega arith) swapped-in mine) j (rw field at k) (rw (field, same) at w)
 
     pub clear-fields : (z : Field) → T (settles s || among unserved z) → Clear (part (v .thread u .cur) z)
     clear-fields z calm =
@@ -154,8 +148,8 @@ module _ {n h : ℕ} {v v′ : View} {g : Ledger} {t : ℕ} {l : Line} {request 
         let same : m ≡ v .thread u .tmp = cc in
         let mine : held (slot n v t) ≡ g .node (g .r) = sym i ∙ ap (λ (q : NodeId). q .0) same ∙ tmp in
         let t≤n : t ≤ n = omega (arith, en .does .below) in
-        let in-queue = rw (owner n h v g (en .control) t (g .r) t≤n (omega arith) swapped-in mine) at (en .control .seat (g .r) (omega arith) swapped-in .queued) in
-        false≢true (sym (j in-queue) ∙ ap (g .linked) (whose n h v g (en .control) t (g .r) t≤n (omega arith) swapped-in mine) ∙ link)
+        let in-queue = rw (owner (en .control) t (g .r) t≤n (omega arith) swapped-in mine) at (en .control .seat (g .r) (omega arith) swapped-in .queued) in
+        false≢true (sym (j in-queue) ∙ ap (g .linked) (whose (en .control) t (g .r) t≤n (omega arith) swapped-in mine) ∙ link)
     clear-tmp z turn tmp link y (served i j k w) p = turn-apart turn j
 
   -- thread t's own stage
@@ -163,7 +157,7 @@ module _ {n h : ℕ} {v v′ : View} {g : Ledger} {t : ℕ} {l : Line} {request 
   mine s e = subst (λ (s : Stage). Standing n h v g t s) (ap stageOf (en .does .stands) ∙ e) (standing (en .control) t (en .does .below))
 
   place-of : (m : NodeId) → m .0 ≤ n → (f : Field) → place (part m f) < 86
-  place-of m i f = omega (arith, below-five f, en .small)
+  place-of m i f = omega (arith, field-number-below f, en .small)
 
   look : (m : NodeId) → m .0 ≤ n → (f : Field) → Touch m (read (part m f))
   look m i f = record { placed = record { fits = place-of m i f; there = refl }; ends = absurd }
@@ -181,7 +175,7 @@ module _ {n h : ℕ} {v v′ : View} {g : Ledger} {t : ℕ} {l : Line} {request 
   change-own o e f =
       let m = mine (out o) e .node in
       change (v .thread t .own) (within m) f
-      (own (sym m) (λ q. absurd (rw (stage-at n h v g (en .control) t _ (en .does .below) (en .does .stands), e) at q)))
+      (own (sym m) (λ q. absurd (rw (stage-at (en .control) t _ (en .does .below) (en .does .stands), e) at q)))
 
   change-cur : (w : Waiting) → stageOf (standsAt (number l)) ≡ wait w → waitRow w .linked ≡ false → (f : Field) → Touch (v .thread t .cur) (write (part (v .thread t .cur) f))
   change-cur w e free f =
@@ -190,7 +184,7 @@ module _ {n h : ℕ} {v v′ : View} {g : Ledger} {t : ℕ} {l : Line} {request 
 
   module _ (w : Combine) (e : stageOf (standsAt (number l)) ≡ combine w) where
     tmp-within : v .thread t .tmp .0 ≤ n
-    tmp-within = rw (mine (combine w) e .facts .1 .1 .serving) (node-bound n h v g (en .control) (g .r) (omega arith) swapped-in)
+    tmp-within = rw (mine (combine w) e .facts .1 .1 .serving) (node-bound (en .control) (g .r) (omega arith) swapped-in)
 
     look-tmp : (f : Field) → Touch (v .thread t .tmp) (read (part (v .thread t .tmp) f))
     look-tmp = look (v .thread t .tmp) tmp-within
@@ -203,7 +197,7 @@ module _ {n h : ℕ} {v v′ : View} {g : Ledger} {t : ℕ} {l : Line} {request 
 
 module _ {n h : ℕ} {v v′ : View} {g : Ledger} {t : ℕ} {request : Request} {answer : Answer} {copies : List ℕ} where
   -- the accesses of thread t's line
-  touches : (l : Line) (en : Entering n h v v′ g t l request answer copies) → Each (Touch en (aimed v t l)) (made v t l)
+  touches : (l : Line) (en : Entering n h v v′ g t l request answer copies) → EachOf (Touch en (aimed v t l)) (made v t l)
   touches Blank en = tt
   touches L1 en = tt
   touches L2 en = (change-own en o2 refl Next, tt)
@@ -228,10 +222,10 @@ module _ {n h : ℕ} {v v′ : View} {g : Ledger} {t : ℕ} {request : Request} 
   touches L21 en = (look-cur en l21 refl tt Ret, tt)
 
   module _ {l : Line} (en : Entering n h v v′ g t l request answer copies) where
-    pub placed : Each (Placed (aimed v t l)) (made v t l)
+    pub placed : EachOf (Placed (aimed v t l)) (made v t l)
     placed = each-map {P = Touch en (aimed v t l)} (λ a b. b .placed) (made v t l) (touches l en)
 
-    pub missed : (x : Location) → Clear en x → Each (Misses x) (made v t l)
+    pub missed : (x : Location) → Clear en x → EachOf (Misses x) (made v t l)
     missed x clear = each-map {P = Touch en (aimed v t l)} (λ a b r. clear (located a) (b .ends r)) (made v t l) (touches l en)
 
     -- the wait of a node stays if no access writes it

@@ -3,12 +3,12 @@
 use Prim.Native.Nat.{ℕ, suc, _≤_, _<_}
 use native.Mathlib.Omega.{arith}
 use mathlib.Core.Path.{_≡_, refl, sym, ap, _∙_}
-use mathlib.Core.Bool.{Bool, true, false, _&&_}
+use mathlib.Core.Bool.{Bool, true, false, _&&_, _||_}
 use mathlib.Core.List.{List, [], _∷_, _++_}
-use lib.ListN.{length, getD, take, length-append, List·getD-append, List·getD-eq-default}
+use lib.ListN.{length, getD, take, length-append, List·getD-append}
 use lib.Seq.{take-append-le, getD-at}
-use lib.Dec.{T, leb, ltb, eqb}
-use borrow.Author.Tests.{lt-leb, ne-eqb, eqb-true, ltb-true}
+use lib.Dec.{T, leb, eqb}
+use borrow.Author.Tests.{lt-leb, le-ltb, ne-eqb, eqb-true}
 use Rattle.object.specs.declared.Kind.{Kind}
 use Rattle.object.specs.declared.Request.{Request}
 use Rattle.object.specs.declared.Request.the-variants.{Put}
@@ -23,36 +23,23 @@ use Rattle.machine.specs.declared.RetVal.the-variants.{Answered}
 use Rattle.machine.specs.declared.Node.{Node}
 use Rattle.machine.specs.declared.Thread.{Thread}
 use Rattle.machine.specs.Lines.{Line, Blank, L1, L2, L3, L4, L5, L6, L7, L8, L9, L10, L11, L12, L13, L14, L15, L16, L17, L18, L19, L20, L21}
-use Rattle.machine.specs.Effect.{isNull, isEmptyRet, usesEmpty, takesOut}
+use Rattle.machine.specs.Effect.{isNull, isEmptyReq, isEmptyRet, usesEmpty, takesOut}
 use Rattle.state.specs.Range.{reqInRange}
-use Rattle.step.proofs.Numbers.{number, standsAt}
-use Rattle.invariant.specs.Stages.{stages, dummy, stageOf, queued, isThread}
+use Rattle.step.proofs.Numbers.{number, number-most, by-last, standsAt}
+use Rattle.invariant.specs.Stages.{stageOf, queued}
 use Rattle.invariant.specs.Ledger.{Ledger, freshLedger, upd, noted}
 use Rattle.invariant.specs.View.{View, goal, does, Does}
 use Rattle.invariant.specs.Control.{Control}
 use Rattle.invariant.specs.Data.{plainAfter, openRequest, appliedBy, grown, CallData, Data}
 use Rattle.invariant.proofs.Feeding.{answers-next, after-next}
 use Rattle.invariant.proofs.Upd.{by-equal, upd-same, upd-other}
-use Rattle.invariant.proofs.Seats.{node-bound, now as stage-facts}
-use Rattle.invariant.proofs.InQueue.{inQueue, Linked, node-cur, at-below, curs-apart, linked-thread}
+use Rattle.invariant.proofs.Seats.{node-bound, known}
+use Rattle.invariant.proofs.Threads.{inQueue, Linked, node-cur, at-below, curs-apart, serving, last-points}
 
--- a test that is made at one number only
-unless : (k j : ℕ) (b : Bool) → (k ≡ j → b ≡ false) → (eqb k j && b) ≡ false
-unless k j b f = by-test (eqb k j) refl
-  where
-    by-test : (test : Bool) → eqb k j ≡ test → (test && b) ≡ false
-    by-test true e = f (eqb-true k j e)
-    by-test false e = refl
-
--- past 21 no thread stands
-few : (k : ℕ) → T (isThread (stageOf (standsAt k))) → ltb 21 k ≡ false
-few k i = by-test (ltb 21 k) refl
-  where
-    by-test : (test : Bool) → ltb 21 k ≡ test → test ≡ false
-    by-test true e =
-        let past = ltb-true 21 k e in
-        absurd (rw (lt-leb k 1 (omega arith), List·getD-eq-default stages dummy past) at i)
-    by-test false e = refl
+-- a second test that is made where the first passes
+unless : (a b : Bool) → (a ≡ true → b ≡ false) → (a && b) ≡ false
+unless true b f = f refl
+unless false b f = refl
 
 -- a thread stays in the queue, with its call and its node
 record Stays (th th′ : Thread) : Type 0 where
@@ -60,20 +47,6 @@ record Stays (th th′ : Thread) : Type 0 where
   announced : (th′ .line ≡ 6 → ⊥) → th .line ≡ 6 → ⊥
   cur : th′ .cur ≡ th .cur
   begun : th′ .begun ≡ th .begun
-
--- line 16 serves the position after those applied: a thread's, whose node is tmpNode
-pub record Serving (n : ℕ) (v : View) (g : Ledger) (t : ℕ) : Type 0 where
-  pub node : v .thread t .tmp .0 ≡ g .node (g .a)
-  pub who : Linked n v g (g .a) (g .who (g .a))
-
-pub serving : {n h : ℕ} {v : View} {g : Ledger} → Control n h v g → (t : ℕ) → t < n → v .thread t .line ≡ 16 → Serving n v g t
-serving {n} {h} {v} {g} c t below e =
-    let f = stage-facts n h v g c t 16 below e .1 .1 in
-    let same : g .a ≡ g .r = omega (arith, f .applied) in
-    record {
-      node = f .serving ∙ ap (g .node) (sym same);
-      who = linked-thread c (g .a) (omega arith) (omega (arith, c .order)) (ap (g .linked) same ∙ f .linked tt);
-    }
 
 -- the nodes and the threads after thread t's line, by what it does to its own
 module _ {n h : ℕ} {v v′ : View} {t : ℕ} {l : Line} {request : Request} {answer : Answer} (d : Does n h v v′ t l request answer) where
@@ -99,45 +72,29 @@ module _ {n h : ℕ} {v v′ : View} {t : ℕ} {l : Line} {request : Request} {a
 module _ {n h : ℕ} {v : View} {g : Ledger} (c : Control n h v g) {requests : ℕ → ℕ → Request} {kind : Kind} {capacity : ℕ}
     {jobs : List Request} {answers : List Answer} {ob : Object} (now : Data n requests kind capacity v g jobs answers ob) where
   -- the node of a linked position asks the request at it
-  pub linked-asks : {i u : ℕ} → Linked n v g i u → v .node (g .node i) .req ≡ Asked (getD jobs i (Put 0))
+  linked-asks : {i u : ℕ} → Linked n v g i u → v .node (g .node i) .req ≡ Asked (getD jobs i (Put 0))
   linked-asks w =
       let f = now .call _ (w .below) (w .queued) in
       rw (← w .node, ← w .at) (f .asked (w .announced) ∙ ap Asked (sym (f .job)))
 
-  -- so does tmpNode at line 16
-  pub served-asks : (t : ℕ) → t < n → v .thread t .line ≡ 16 → v .node (v .thread t .tmp .0) .req ≡ Asked (getD jobs (g .a) (Put 0))
-  served-asks t below e = let s = serving c t below e in rw (s .node) (linked-asks (s .who))
+  module _ {v′ : View} {t : ℕ} {l : Line} {request : Request} {answer : Answer} (d : Does n h v v′ t l request answer) where
+    -- so does the node that line 16 points to
+    pub served-asks : number l ≡ 16 → v .node (goal v t l) .req ≡ Asked (getD jobs (g .a) (Put 0))
+    served-asks q = let s = serving c d q in rw (s .node) (linked-asks (s .who))
 
-  -- a call that is applied finds its answer
-  answer-there : (t : ℕ) → t < n → inQueue v t → g .at t < g .a → isEmptyRet (v .node (v .thread t .cur .0) .ret) ≡ false
-  answer-there t below q applied = rw (now .call t below q .replied applied)
+    -- and a call's last line finds its answer
+    pub answer-there : (eqb (number l) 11 || eqb (number l) 21) ≡ true → v .node (goal v t l) .ret ≡ Answered (getD answers (g .at t) Empty)
+    answer-there last =
+        let p = last-points c d last in
+        rw (p .0) (now .call t (d .below) (by-last (number l) last (λ q. rw (d .stands, q) tt) (λ q. rw (d .stands, q) tt)) .replied (p .1))
 
-  pub uses-none : {v′ : View} {t : ℕ} {request : Request} {answer : Answer} (l : Line) → Does n h v v′ t l request answer
-      → usesEmpty (v .node (goal v t l)) (number l) ≡ false
-  uses-none Blank d = refl
-  uses-none L1 d = refl
-  uses-none L2 d = refl
-  uses-none L3 d = refl
-  uses-none L4 d = refl
-  uses-none L5 d = refl
-  uses-none L6 d = refl
-  uses-none L7 d = refl
-  uses-none L8 d = refl
-  uses-none L9 d = refl
-  uses-none L10 d = refl
-  uses-none L11 d =
-      answer-there _ (d .below) (rw (d .stands) tt) (omega (arith, c .order, stage-facts n h v g c _ 11 (d .below) (d .stands) .1 .released tt))
-  uses-none L12 d = refl
-  uses-none L13 d = refl
-  uses-none L14 d = refl
-  uses-none L15 d = refl
-  uses-none L16 d = rw (served-asks _ (d .below) (d .stands))
-  uses-none L17 d = refl
-  uses-none L18 d = refl
-  uses-none L19 d = refl
-  uses-none L20 d = refl
-  uses-none L21 d =
-      answer-there _ (d .below) (rw (d .stands) tt) (omega (arith, c .order, stage-facts n h v g c _ 21 (d .below) (d .stands) .1 .past))
+    -- so no line uses an empty one
+    uses-none : usesEmpty (v .node (goal v t l)) (number l) ≡ false
+    uses-none =
+        rw (
+          unless (eqb (number l) 16) (isEmptyReq (v .node (goal v t l) .req)) (λ e. rw (served-asks (eqb-true (number l) 16 e))),
+          unless (eqb (number l) 11 || eqb (number l) 21) (isEmptyRet (v .node (goal v t l) .ret)) (λ e. rw (answer-there e)),
+        )
 
   -- at line 14 the served counter is below h, and at line 19 tmpNodeNext is a node
   pub no-line-out : n ≤ 16 → {v′ : View} {t : ℕ} {request : Request} {answer : Answer} (l : Line) → Does n h v v′ t l request answer
@@ -146,12 +103,12 @@ module _ {n h : ℕ} {v : View} {g : Ledger} (c : Control n h v g) {requests : �
   no-line-out small {t} l d begins =
       let th = v .thread t in
       rw (
-        few (number l) (rw (← d .stands) (c .lines t (d .below))),
-        unless (number l) 1 (leb (th .count) (th .begun)) (λ e. lt-leb _ _ (begins e)),
-        unless (number l) 14 (leb h (th .served)) (λ e. lt-leb _ _ (stage-facts n h v g c t 14 (d .below) (d .stands ∙ ap standsAt e) .1 .1 .room tt)),
-        unless (number l) 19 (isNull (th .tmpnext)) (λ e. ne-eqb (th .tmpnext .0) 255 (λ i.
-            omega (arith, stage-facts n h v g c t 19 (d .below) (d .stands ∙ ap standsAt e) .1 .1 .next, node-bound n h v g c (g .r) (omega arith) (omega (arith, c .order))))),
-        uses-none l d,
+        le-ltb 21 (number l) (number-most l),
+        unless (eqb (number l) 1) (leb (th .count) (th .begun)) (λ e. lt-leb _ _ (begins (eqb-true _ 1 e))),
+        unless (eqb (number l) 14) (leb h (th .served)) (λ e. lt-leb _ _ (known c d (eqb-true (number l) 14 e) .1 .1 .room tt)),
+        unless (eqb (number l) 19) (isNull (th .tmpnext)) (λ e. ne-eqb (th .tmpnext .0) 255 (λ i.
+            omega (arith, known c d (eqb-true (number l) 19 e) .1 .1 .next, node-bound c (g .r) (omega arith) (omega (arith, c .order))))),
+        uses-none d,
       ) refl
 
   -- an open call after a line, of a thread that stays
@@ -239,9 +196,9 @@ module _ {n h : ℕ} {v : View} {g : Ledger} (c : Control n h v g) {requests : �
   serve {v′} {t} d range long known =
       let job = getD jobs (g .a) (Put 0) in
       let answer = appliedBy kind capacity ob v t L16 .answer in
-      let s = serving c t (d .below) (d .stands) in
+      let s = serving c d refl in
       let w = s .who in
-      let asks = served-asks t (d .below) (d .stands) in
+      let asks = served-asks d refl in
       let more : g .a < length jobs = omega (arith, now .swaps, at-below c _ (w .below) (w .queued), w .at) in
       let knows-job : knows kind job ≡ true = rw asks at known in
       let plain = applies-plainly kind capacity ob job long .plain (rw range tt) (rw knows-job tt) in

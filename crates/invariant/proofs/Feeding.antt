@@ -11,11 +11,6 @@ use Rattle.object.specs.Plain.{Plain, plainStep, answersFrom}
 use Rattle.invariant.specs.Data.{plainAfter}
 
 module _ (kind : Kind) (capacity : ℕ) where
-  pub answers-length : (p : Plain) (jobs : List Request) → length (answersFrom kind capacity p jobs) ≡ length jobs
-  unfolding answersFrom
-  answers-length p [] = refl
-  answers-length p (job ∷ jobs) = ap suc (answers-length (plainStep kind capacity job p .after) jobs)
-
   -- the first answers are those to the first requests
   pub answers-take : (p : Plain) (k : ℕ) (jobs : List Request)
       → take k (answersFrom kind capacity p jobs) ≡ answersFrom kind capacity p (take k jobs)
@@ -27,7 +22,7 @@ module _ (kind : Kind) (capacity : ℕ) where
       ap (λ (rest : List Answer). r .answer ∷ rest) (answers-take (r .after) k jobs)
 
   -- what is fed later finds the object as the earlier requests left it
-  pub answers-append : (p : Plain) (jobs more : List Request)
+  answers-append : (p : Plain) (jobs more : List Request)
       → answersFrom kind capacity p (jobs ++ more) ≡ answersFrom kind capacity p jobs ++ answersFrom kind capacity (plainAfter kind capacity p jobs) more
   unfolding answersFrom plainAfter
   answers-append p [] more = refl
@@ -35,7 +30,7 @@ module _ (kind : Kind) (capacity : ℕ) where
       let r = plainStep kind capacity job p in
       ap (λ (rest : List Answer). r .answer ∷ rest) (answers-append (r .after) jobs more)
 
-  pub after-append : (p : Plain) (jobs more : List Request)
+  after-append : (p : Plain) (jobs more : List Request)
       → plainAfter kind capacity p (jobs ++ more) ≡ plainAfter kind capacity (plainAfter kind capacity p jobs) more
   unfolding plainAfter
   after-append p [] more = refl

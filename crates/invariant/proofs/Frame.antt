@@ -13,7 +13,7 @@ use Rattle.step.proofs.Numbers.{number, standsAt}
 use Rattle.invariant.specs.Stages.{Stage, stageOf, queued, isThread}
 use Rattle.invariant.specs.Ledger.{Ledger}
 use Rattle.invariant.specs.View.{View, does, goal, Does}
-use Rattle.invariant.specs.Control.{slot, slotOfThread, held, Fields, StageFacts, Queued, Order, Seat, Control}
+use Rattle.invariant.specs.Control.{slot, slotOfThread, held, NodeFields, StageFacts, Queued, Order, Seat, Control}
 use Rattle.invariant.proofs.Upd.{by-equal}
 use Rattle.invariant.proofs.Slots.{slot-thread, slot-same, atTurn, turn-queued}
 use Rattle.invariant.proofs.Waits.{waits-same, ltb-same}
@@ -80,7 +80,7 @@ module _ {n h : ℕ} {v v′ : View} {g : Ledger} {t : ℕ} {l : Line} {request 
   Outs = (u : ℕ) → u ≤ n → (u ≡ t → ⊥) → T (not (queued (slot n v u .stage))) → v′ .node (held (slot n v u)) ≡ v .node (held (slot n v u))
 
   held-mine : held (slot n v t) ≡ mine
-  held-mine = holds n h v g c t _ (run .below) (run .stands)
+  held-mine = holds c t _ (run .below) (run .stands)
 
   mine-now : slot n v′ t ≡ slotOfThread th
   mine-now = slot-thread n v′ t (run .below) ∙ ap slotOfThread (run .mine ∙ after)
@@ -111,7 +111,7 @@ module _ {n h : ℕ} {v v′ : View} {g : Ledger} {t : ℕ} {l : Line} {request 
     seat = λ i j k. seated i j (c .seat i (omega arith) k);
     facts = λ u k. by-equal u t
         (λ e. rw (e, mine-now, same) facts)
-        (λ e. rw (other-now u e) (slot-stable n h v g _ c grown u k _ (others u k e) (outs u k e)));
+        (λ e. rw (other-now u e) (slot-stable c grown u k _ (others u k e) (outs u k e)));
   }
     where
       grown : Grown g (going g linked a d r b)
@@ -121,7 +121,7 @@ module _ {n h : ℕ} {v v′ : View} {g : Ledger} {t : ℕ} {l : Line} {request 
       seated i j f = record {
         who = f .who;
         queued = by-equal (g .who i) t
-            (λ e. rw (e, mine-now) (stays (rw (e, stage-at n h v g c t _ (run .below) (run .stands)) at (f .queued)) (omega (arith, rw e at (f .at)))))
+            (λ e. rw (e, mine-now) (stays (rw (e, stage-at c t _ (run .below) (run .stands)) at (f .queued)) (omega (arith, rw e at (f .at)))))
             (λ e. rw (other-now _ e) (f .queued));
         at = f .at;
       }
@@ -148,7 +148,7 @@ module _ {n h : ℕ} {v v′ : View} {g : Ledger} {t : ℕ} {l : Line} {request 
         still = λ z. record { a = refl; d = refl; r = refl; b = refl };
         even = λ i j. absurd (j i);
         top = λ z. refl;
-        fields = rw (apart-now u k e) (fields-same g _ _ _ (links .same u k e q) (λ z. refl) refl refl (queued-slot n h v g c u k q .fields));
+        fields = rw (apart-now u k e) (fields-same g _ _ _ (links .same u k e q) (λ z. refl) refl refl (queued-slot c u k q .fields));
       }
 
   -- the thread has the turn, sets counts, and no node but that of position r is written
@@ -157,7 +157,7 @@ module _ {n h : ℕ} {v v′ : View} {g : Ledger} {t : ℕ} {l : Line} {request 
       → T (queued (stageOf (th .line)))
       → goal v t l ≡ g .node (g .r)
       → Counted g a d r b
-      → Fields (going g (g .linked) a d r b) (g .r) (does v t l h request answer .node)
+      → NodeFields (going g (g .linked) a d r b) (g .r) (does v t l h request answer .node)
       → ((y : Node)
       → Queued (going g (g .linked) a d r b) t (v .thread t .cur .0) y
       → StageFacts h (going g (g .linked) a d r b) t (stageOf (th .line)) (slotOfThread th) y)
@@ -169,7 +169,7 @@ module _ {n h : ℕ} {v v′ : View} {g : Ledger} {t : ℕ} {l : Line} {request 
       in-range = omega (arith, run .below)
 
       has-turn : T (atTurn (slot n v t .stage))
-      has-turn = rw (stage-at n h v g c t _ (run .below) (run .stands)) turn
+      has-turn = rw (stage-at c t _ (run .below) (run .stands)) turn
 
       in-turn : T (queued (slot n v t .stage))
       in-turn = turn-queued (slot n v t .stage) has-turn
@@ -181,19 +181,19 @@ module _ {n h : ℕ} {v v′ : View} {g : Ledger} {t : ℕ} {l : Line} {request 
       away k e = run .elsewhere k (λ z. e (z ∙ at))
 
       -- the slot at position r sees the written node, the others the fields of before
-      fields-now : (u : ℕ) → u ≤ n → T (queued (slot n v u .stage)) → Fields (going g (g .linked) a d r b) (g .at u) (v′ .node (held (slot n v u)))
+      fields-now : (u : ℕ) → u ≤ n → T (queued (slot n v u .stage)) → NodeFields (going g (g .linked) a d r b) (g .at u) (v′ .node (held (slot n v u)))
       fields-now u k q =
           by-equal (g .at u) (g .r)
-          (λ e. rw (node-of n h v g c u k q, e, ← at, run .there) there)
-          (λ e. rw (away _ (λ z. e (whose n h v g c u (g .r) k (omega arith) top z)))
+          (λ e. rw (node-of c u k q, e, ← at, run .there) there)
+          (λ e. rw (away _ (λ z. e (whose c u (g .r) k (omega arith) top z)))
           (fields-same g _ _ _ refl (λ z. refl)
           (waits-same (g .r) (g .b) r b (g .at u) (λ z. omega (arith, counts .released)) (counts .waiting _ e) (counts .turning _ e) (counts .turn _ e))
           (ltb-same (g .at u) (g .d) d (counts .marked _ e) (counts .left _ e))
-          (queued-slot n h v g c u k q .fields)))
+          (queued-slot c u k q .fields)))
 
       mine-queued : Queued (going g (g .linked) a d r b) t (v .thread t .cur .0) (v′ .node mine)
       mine-queued =
-          let f = queued-slot n h v g c t in-range in-turn in
+          let f = queued-slot c t in-range in-turn in
           record {
             who = f .who;
             node = f .node ∙ ap (λ x. x .cur) (slot-thread n v t (run .below));
@@ -203,14 +203,14 @@ module _ {n h : ℕ} {v v′ : View} {g : Ledger} {t : ℕ} {l : Line} {request 
       out-now : Outs
       out-now u k e q =
           away _ (λ z. T-not (queued (slot n v u .stage)) q
-          (rw (owner n h v g c u (g .r) k (omega arith) top z) at (c .seat (g .r) (omega arith) top .queued)))
+          (rw (owner c u (g .r) k (omega arith) top z) at (c .seat (g .r) (omega arith) top .queued)))
 
       rely : Others (going g (g .linked) a d r b)
       rely u k e q = record {
         at = refl;
         who = refl;
         linked = refl;
-        still = λ z. absurd (e (seats-apart n h v g c u t k in-range q in-turn (z ∙ sym (turn-at n h v g c t in-range has-turn))));
+        still = λ z. absurd (e (seats-apart c u t k in-range q in-turn (z ∙ sym (turn-at c t in-range has-turn))));
         even = counts .even _;
         top = λ z. refl;
         fields = fields-now u k q;

@@ -4,7 +4,6 @@ pub mod Copies
 pub mod Data
 pub mod Feeding
 pub mod Frame
-pub mod InQueue
 pub mod Lines
 pub mod Noted
 pub mod Remote

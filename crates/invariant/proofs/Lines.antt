@@ -14,10 +14,10 @@ use Rattle.machine.specs.Effect.{isNull, goes}
 use Rattle.invariant.specs.Stages.{queued}
 use Rattle.invariant.specs.Ledger.{Ledger, noted}
 use Rattle.invariant.specs.View.{View, Does}
-use Rattle.invariant.specs.Control.{slot, slotOfThread, Fields, StageFacts, Control}
+use Rattle.invariant.specs.Control.{slot, slotOfThread, NodeFields, StageFacts, Control}
 use Rattle.invariant.proofs.Upd.{upd-same, upd-other, by-equal, by-order}
 use Rattle.invariant.proofs.Waits.{waits-below, waits-turn, waits-free, waits-held}
-use Rattle.invariant.proofs.Seats.{holding, stage-at, now, seats-apart, fields-at, node-bound, linked-below}
+use Rattle.invariant.proofs.Seats.{holding, stage-at, known, seats-apart, fields-at, node-bound, linked-below}
 use Rattle.invariant.proofs.Frame.{no-links, kept, wrote, from, home, far}
 use Rattle.invariant.proofs.Swap.{swap}
 
@@ -35,18 +35,18 @@ module _ (n h : ℕ) (small : n ≤ 16) (some : 0 < h) (v v′ : View) (g : Ledg
 
   -- what the thread knows before its line
   knows : {l : Line} → Run l → StageFacts h g t (from l) (slotOfThread th) (v .node (holding (from l) th))
-  knows run = now n h v g c t _ (run .below) (run .stands)
+  knows run = known c run refl
 
   -- line 7 links the thread's position
   link : Run L7 → Control n h v′ (noted n t (th .own .0) g L7)
   link run =
       let f = knows run in
       let l = upd-same (g .linked) (g .at t) true in
-      let k : T (queued (slot n v t .stage)) = rw (stage-at n h v g c t _ (run .below) (run .stands)) tt in
+      let k : T (queued (slot n v t .stage)) = rw (stage-at c t _ (run .below) (run .stands)) tt in
       home c run _ refl refl tt refl
       (record {
         more = λ j e. by-equal j (g .at t) (λ z. rw (z, l)) (λ z. upd-other _ _ _ j z ∙ e);
-        same = λ u j e q. upd-other _ _ _ _ (λ z. e (seats-apart n h v g c u t j (omega (arith, run .below)) q k z));
+        same = λ u j e q. upd-other _ _ _ _ (λ z. e (seats-apart c u t j (omega (arith, run .below)) q k z));
       })
       (wrote run)
       (λ q k. tt) (
@@ -90,8 +90,8 @@ module _ (n h : ℕ) (small : n ≤ 16) (some : 0 < h) (v v′ : View) (g : Ledg
       home c run _ refl refl tt refl no-links (kept run refl _) (λ q k. tt) (f .0, search (arith, absurd, f, even, back, serving, c .order))
 
   -- the node to serve is that of position r
-  serving : th .tmp .0 ≡ g .node (g .r) → Fields g (g .r) tmp
-  serving e = subst (λ k. Fields g (g .r) (v .node k)) (sym e) (fields-at n h v g c (g .r) (omega arith) (omega (arith, c .order)))
+  serving : th .tmp .0 ≡ g .node (g .r) → NodeFields g (g .r) tmp
+  serving e = subst (λ k. NodeFields g (g .r) (v .node k)) (sym e) (fields-at c (g .r) (omega arith) (omega (arith, c .order)))
 
   -- its next is null just if it is not linked
   linked-next : th .tmp .0 ≡ g .node (g .r) → not (isNull (tmp .next)) ≡ g .linked (g .r)
@@ -99,8 +99,8 @@ module _ (n h : ℕ) (small : n ≤ 16) (some : 0 < h) (v v′ : View) (g : Ledg
     where
       go : (b : Bool) → g .linked (g .r) ≡ b → not (isNull (tmp .next)) ≡ b
       go true z =
-          let i = linked-below n h v g c (g .r) (omega (arith, c .order)) z in
-          let k = node-bound n h v g c (suc (g .r)) (omega arith) i in
+          let i = linked-below c (g .r) (omega (arith, c .order)) z in
+          let k = node-bound c (suc (g .r)) (omega arith) i in
           ap not (ne-eqb (tmp .next .0) 255 (λ x. omega (arith, rw z at (serving e .next))))
       go false z = ap not (eq-eqb (tmp .next .0) 255 (rw z at (serving e .next)))
 
@@ -131,7 +131,7 @@ module _ (n h : ℕ) (small : n ≤ 16) (some : 0 < h) (v v′ : View) (g : Ledg
   applies run =
       let f = knows run in
       let e = f .1 .1 .serving in
-      let i = linked-below n h v g c (g .r) (omega (arith, c .order)) (f .1 .1 .linked tt) in
+      let i = linked-below c (g .r) (omega (arith, c .order)) (f .1 .1 .linked tt) in
       let p = serving e in
       far c run _ refl refl tt refl (suc (g .a)) (g .d) (g .r) (g .b) tt tt e (omega (arith, f, c .order)) (search p) (λ y q. (q, search (arith, f)))
 

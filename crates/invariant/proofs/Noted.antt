@@ -1,76 +1,49 @@
--- A line by its number, and what it writes into the ledger: which counts it raises and what it leaves. Assumes nothing.
-use Prim.Native.Nat.{ℕ, _+_}
+-- What a line writes into the ledger: the counts that it raises, and the positions that it leaves. Assumes nothing.
+use Prim.Native.Nat.{ℕ, suc, _+_, _≤_, _<_}
 use native.Mathlib.Omega.{arith}
-use mathlib.Core.Path.{_≡_, refl}
-use mathlib.Core.Bool.{not, _||_}
-use lib.Dec.{T, eqb}
-use Rattle.machine.specs.Lines.{Line, lineOf, Blank, L1, L2, L3, L4, L5, L6, L7, L8, L9, L10, L11, L12, L13, L14, L15, L16, L17, L18, L19, L20, L21}
+use mathlib.Core.Path.{_≡_, _∙_}
+use mathlib.Core.Bool.{cond}
+use lib.Dec.{eqb}
+use borrow.Author.Tests.{ne-eqb}
+use Rattle.machine.specs.Lines.{Line}
 use Rattle.step.specs.Entry.{oneIf}
-use Rattle.step.proofs.Numbers.{number}
-use Rattle.invariant.specs.Ledger.{Ledger, swapped, linking, noted}
+use Rattle.step.proofs.Numbers.{number, each-line}
+use Rattle.invariant.specs.Ledger.{Ledger, swapped, noted}
+use Rattle.invariant.proofs.Upd.{by-equal, upd-same, upd-other}
 
--- a line is the one of its number
-pub line-at : (l : Line) → lineOf (number l) ≡ l
-line-at Blank = refl
-line-at L1 = refl
-line-at L2 = refl
-line-at L3 = refl
-line-at L4 = refl
-line-at L5 = refl
-line-at L6 = refl
-line-at L7 = refl
-line-at L8 = refl
-line-at L9 = refl
-line-at L10 = refl
-line-at L11 = refl
-line-at L12 = refl
-line-at L13 = refl
-line-at L14 = refl
-line-at L15 = refl
-line-at L16 = refl
-line-at L17 = refl
-line-at L18 = refl
-line-at L19 = refl
-line-at L20 = refl
-line-at L21 = refl
-
--- thread t's line k makes g into g′
+-- thread t's line k makes g into g′: it raises counts, and positions change at a Swap alone
 pub record Notes (n t own : ℕ) (g : Ledger) (k : ℕ) (g′ : Ledger) : Type 0 where
   pub s : g′ .s ≡ g .s + oneIf (eqb k 5)
   pub a : g′ .a ≡ g .a + oneIf (eqb k 16)
-  pub d : g′ .d ≡ g .d + oneIf (eqb k 17)
   pub r : g′ .r ≡ g .r + oneIf (eqb k 18)
-  pub b : T (not (eqb k 20)) → g′ .b ≡ g .b
-  pub turn : T (eqb k 20) → g′ .b ≡ g .a
-  -- positions and slots change at a Swap alone, and links at line 7 too
-  pub swap : T (eqb k 5) → g′ ≡ swapped n t own g
-  pub link : T (eqb k 7) → g′ ≡ linking n t own g
-  pub node : T (not (eqb k 5)) → g′ .node ≡ g .node
-  pub who : T (not (eqb k 5)) → g′ .who ≡ g .who
-  pub at : T (not (eqb k 5)) → g′ .at ≡ g .at
-  pub linked : T (not (eqb k 5 || eqb k 7)) → g′ .linked ≡ g .linked
+  pub b : g′ .b ≡ cond (eqb k 20) (g .a) (g .b)
+  pub node : (i : ℕ) → g′ .node i ≡ cond (eqb k 5) (swapped n t own g .node i) (g .node i)
+  pub at : (u : ℕ) → g′ .at u ≡ cond (eqb k 5) (swapped n t own g .at u) (g .at u)
 
-module _ (n t own : ℕ) (g : Ledger) where
-  pub notes : (l : Line) → Notes n t own g (number l) (noted n t own g l)
-  notes Blank = search (arith, absurd)
-  notes L1 = search (arith, absurd)
-  notes L2 = search (arith, absurd)
-  notes L3 = search (arith, absurd)
-  notes L4 = search (arith, absurd)
-  notes L5 = search (arith, absurd)
-  notes L6 = search (arith, absurd)
-  notes L7 = search (arith, absurd)
-  notes L8 = search (arith, absurd)
-  notes L9 = search (arith, absurd)
-  notes L10 = search (arith, absurd)
-  notes L11 = search (arith, absurd)
-  notes L12 = search (arith, absurd)
-  notes L13 = search (arith, absurd)
-  notes L14 = search (arith, absurd)
-  notes L15 = search (arith, absurd)
-  notes L16 = search (arith, absurd)
-  notes L17 = search (arith, absurd)
-  notes L18 = search (arith, absurd)
-  notes L19 = search (arith, absurd)
-  notes L20 = search (arith, absurd)
-  notes L21 = search (arith, absurd)
+pub notes : (n t own : ℕ) (g : Ledger) (l : Line) → Notes n t own g (number l) (noted n t own g l)
+notes n t own g l =
+    let after = noted n t own g in
+    record {
+      s = each-line (λ (l : Line). after l .s ≡ g .s + oneIf (eqb (number l) 5)) (omega arith) l;
+      a = each-line (λ (l : Line). after l .a ≡ g .a + oneIf (eqb (number l) 16)) (omega arith) l;
+      r = each-line (λ (l : Line). after l .r ≡ g .r + oneIf (eqb (number l) 18)) (omega arith) l;
+      b = each-line (λ (l : Line). after l .b ≡ cond (eqb (number l) 20) (g .a) (g .b)) (omega arith) l;
+      node = λ i. each-line (λ (l : Line). after l .node i ≡ cond (eqb (number l) 5) (swapped n t own g .node i) (g .node i)) (omega arith) l;
+      at = λ u. each-line (λ (l : Line). after l .at u ≡ cond (eqb (number l) 5) (swapped n t own g .at u) (g .at u)) (omega arith) l;
+    }
+
+module _ (n t own : ℕ) (g : Ledger) (l : Line) where
+  -- a slot's position: a Swap gives its thread the last, and the other threads keep theirs
+  pub at-swap : number l ≡ 5 → t < n → noted n t own g l .at t ≡ g .s
+  at-swap q below = notes n t own g l .at t ∙ rw q (upd-other _ n _ t (λ e. omega arith) ∙ upd-same (g .at) t _)
+
+  pub at-kept : (u : ℕ) → u < n → (u ≡ t → number l ≡ 5 → ⊥) → noted n t own g l .at u ≡ g .at u
+  at-kept u below apart =
+      notes n t own g l .at u
+      ∙ by-equal (number l) 5 (λ q. rw q (upd-other _ n _ u (λ e. omega arith) ∙ upd-other (g .at) t _ u (λ e. apart e q)))
+      (λ q. rw (ne-eqb (number l) 5 q))
+
+  -- the nodes of the positions so far stay
+  pub node-kept : (i : ℕ) → i ≤ g .s → noted n t own g l .node i ≡ g .node i
+  node-kept i low =
+      notes n t own g l .node i ∙ by-equal (number l) 5 (λ q. rw q (upd-other _ (suc (g .s)) _ i (λ e. omega arith))) (λ q. rw (ne-eqb (number l) 5 q))

@@ -6,21 +6,22 @@ use mathlib.Core.Bool.{Bool, true, false, cond, _||_}
 use mathlib.Core.List.{List, [], _∷_}
 use lib.Dec.{T, eqb}
 use lib.ListN.{length}
+use lib.Ieee.Bits.{is-true}
 use Rattle.object.specs.declared.Request.{Request}
 use Rattle.object.specs.declared.Answer.{Answer}
 use Rattle.machine.specs.declared.NodeId.{NodeId}
 use Rattle.machine.specs.declared.Thread.{Thread}
 use Rattle.machine.specs.declared.Field.{Field}
 use Rattle.machine.specs.declared.Field.the-variants.{Req, Wait, Next}
-use Rattle.machine.specs.Lines.{Line, L11, L21, Location, part, read}
-use Rattle.step.proofs.Numbers.{number, standsAt}
+use Rattle.machine.specs.Lines.{Line, Location, part, read}
+use Rattle.step.proofs.Numbers.{number, by-line, standsAt}
 use Rattle.copies.specs.Remote.{holds}
 use Rattle.invariant.specs.Stages.{Stage, Wait as Waiting, w6, w7, w8, w9, w10, w11, w12, out, wait, combine, l19, l21, dummy, stageOf}
 use Rattle.invariant.specs.Ledger.{Ledger, upd}
 use Rattle.invariant.specs.View.{View, Does}
 use Rattle.invariant.specs.Control.{combineRow, Control}
 use Rattle.invariant.specs.Remote.{among, Within, waitCost, Spent, Remote}
-use Rattle.invariant.proofs.Upd.{by-equal, is-true, upd-same, upd-other}
+use Rattle.invariant.proofs.Upd.{by-equal, upd-same, upd-other}
 use Rattle.invariant.proofs.Copies.{among-all, remote-most, kept}
 use Rattle.invariant.proofs.Clear.{made, aimed, Entering, Standing, standing, unserved, settles, Clear, clear-fields, clear-wait, clear-tmp, placed, missed, wait-kept}
 use Rattle.invariant.proofs.Rounds.{afterLine, at-cur, once, own-line}
@@ -110,12 +111,15 @@ module _ {n h : ℕ} {v v′ : View} {g : Ledger} {t : ℕ} {request : Request} 
       }
 
   -- a call that returns at line 11 has made at most 10, and one that returns at line 21 at most 5 for each that it served, and 7
-  pub returns-11 : Does n h v v′ t L11 request answer → cost t + afterLine n v t copies L11 .remote ≤ 10
-  returns-11 d = omega (arith, spent-at d .0 .most, once (entering d))
+  pub returns-11 : {l : Line} → Does n h v v′ t l request answer → number l ≡ 11 → cost t + afterLine n v t copies l .remote ≤ 10
+  returns-11 {l} d q =
+      by-line (λ (l : Line). Does n h v v′ t l request answer → cost t + afterLine n v t copies l .remote ≤ 10) l q
+      (λ d. omega (arith, spent-at d .0 .most, once (entering d))) d
 
-  pub returns-21 : Does n h v v′ t L21 request answer → cost t + afterLine n v t copies L21 .remote ≤ 5 * v .thread t .served + 7
-  returns-21 d =
-      at-cur (entering d) {bound′ = 5 * v .thread t .served + 7} {ofCur′ = []} {ofTmp′ = []} (spent-at d) (placed (entering d)) (omega arith) tt tt .most
+  pub returns-21 : {l : Line} → Does n h v v′ t l request answer → number l ≡ 21 → cost t + afterLine n v t copies l .remote ≤ 5 * v .thread t .served + 7
+  returns-21 {l} d q =
+      by-line (λ (l : Line). Does n h v v′ t l request answer → cost t + afterLine n v t copies l .remote ≤ 5 * v .thread t .served + 7) l q
+      (λ d. at-cur (entering d) {bound′ = 5 * v .thread t .served + 7} {ofCur′ = []} {ofTmp′ = []} (spent-at d) (placed (entering d)) (omega arith) tt tt .most) d
 
 -- idle threads have no call open
 pub remote-fresh : {n : ℕ} {v : View} {copies : List ℕ} {cost : ℕ → ℕ} → ((u : ℕ) → u < n → v .thread u .line ≡ 0) → Remote n v copies cost

@@ -4,11 +4,15 @@ use native.Mathlib.Omega.{arith}
 use mathlib.Core.Path.{_≡_, sym, _∙_, ap, subst}
 use mathlib.Core.Bool.{true, cond, false≢true}
 use lib.Dec.{T}
+use Rattle.object.specs.declared.Request.{Request}
+use Rattle.object.specs.declared.Answer.{Answer}
 use Rattle.machine.specs.declared.Thread.{Thread}
+use Rattle.machine.specs.Lines.{Line}
+use Rattle.step.proofs.Numbers.{number, standsAt}
 use Rattle.invariant.specs.Stages.{Stage, stageOf, queued}
 use Rattle.invariant.specs.Ledger.{Ledger}
-use Rattle.invariant.specs.View.{View}
-use Rattle.invariant.specs.Control.{slot, slotOfThread, held, Queued, Fields, StageFacts, DummyFacts, Control}
+use Rattle.invariant.specs.View.{View, Does}
+use Rattle.invariant.specs.Control.{slot, slotOfThread, held, Queued, NodeFields, StageFacts, DummyFacts, Control}
 use Rattle.invariant.proofs.Upd.{by-equal}
 use Rattle.invariant.proofs.Slots.{slot-tail, slot-thread, held-queued, in-queue, at-swapped, at-turn, turn-queued, atTurn}
 
@@ -16,7 +20,7 @@ use Rattle.invariant.proofs.Slots.{slot-tail, slot-thread, held-queued,
 abbrev pub holding : Stage → Thread → ℕ
 holding l th = cond (queued l) (th .cur .0) (th .own .0)
 
-module _ (n h : ℕ) (v : View) (g : Ledger) (c : Control n h v g) where
+module _ {n h : ℕ} {v : View} {g : Ledger} (c : Control n h v g) where
   pub queued-slot : (u : ℕ) → u ≤ n → T (queued (slot n v u .stage)) → Queued g u (slot n v u .cur) (v .node (held (slot n v u)))
   queued-slot u k q = in-queue h g u (slot n v u .stage) (slot n v u) _ q (c .facts u k)
 
@@ -28,7 +32,7 @@ module _ (n h : ℕ) (v : View) (g : Ledger) (c : Control n h v g) where
   node-of u k q = held-queued (slot n v u) q ∙ sym (queued-slot u k q .node)
 
   -- a position from the released on: its slot's node is the ledger's
-  pub node-at : (i : ℕ) → g .r ≤ i → i ≤ g .s → held (slot n v (g .who i)) ≡ g .node i
+  node-at : (i : ℕ) → g .r ≤ i → i ≤ g .s → held (slot n v (g .who i)) ≡ g .node i
   node-at i j k = let f = c .seat i j k in node-of _ (f .who) (f .queued) ∙ ap (g .node) (f .at)
 
   -- who holds its node is at it
@@ -42,7 +46,7 @@ module _ (n h : ℕ) (v : View) (g : Ledger) (c : Control n h v g) where
   positions-apart i j ri is rj js e = sym (c .seat i ri is .at) ∙ whose _ j (c .seat i ri is .who) rj js (node-at i ri is ∙ e)
 
   -- the fields of a position's node
-  pub fields-at : (i : ℕ) → g .r ≤ i → i ≤ g .s → Fields g i (v .node (g .node i))
+  pub fields-at : (i : ℕ) → g .r ≤ i → i ≤ g .s → NodeFields g i (v .node (g .node i))
   fields-at i j k =
       let f = c .seat i j k in
       let q = queued-slot _ (f .who) (f .queued) .fields in
@@ -60,7 +64,7 @@ module _ (n h : ℕ) (v : View) (g : Ledger) (c : Control n h v g) where
   one-turn u w k j p q =
       seats-apart u w k j (turn-queued (slot n v u .stage) p) (turn-queued (slot n v w .stage) q) (turn-at u k p ∙ sym (turn-at w j q))
 
-  pub at-most : (u : ℕ) → u ≤ n → T (queued (slot n v u .stage)) → g .at u ≤ g .s
+  at-most : (u : ℕ) → u ≤ n → T (queued (slot n v u .stage)) → g .at u ≤ g .s
   at-most u k q = at-swapped h g u (slot n v u .stage) (slot n v u) (v .node (held (slot n v u))) q (c .facts u k)
 
   -- Tail's slot
@@ -70,6 +74,16 @@ module _ (n h : ℕ) (v : View) (g : Ledger) (c : Control n h v g) where
   -- the dummy has no next, so a position that has one is below it
   pub linked-below : (i : ℕ) → i ≤ g .s → g .linked i ≡ true → i < g .s
   linked-below i k e = by-equal i (g .s) (λ z. absurd (false≢true (sym (tail-facts .1 .linked) ∙ ap (g .linked) (sym z) ∙ e))) (λ z. omega arith)
+
+  -- a queued thread is before Tail
+  pub before-tail : (u : ℕ) → u ≤ n → (u ≡ n → ⊥) → T (queued (slot n v u .stage)) → g .at u < g .s
+  before-tail u k apart q =
+      by-equal (g .at u) (g .s)
+      (λ e. absurd (apart (seats-apart u n k (omega arith) q (rw (slot-tail n v) tt) (e ∙ sym (tail-facts .1 .last)))))
+      (λ e. omega (arith, at-most u k q))
+
+  pub tail-node : v .tail .0 ≡ g .node (g .s)
+  tail-node = sym (tail-facts .0 .node) ∙ ap (g .node) (tail-facts .1 .last)
 
   -- a thread at line k: its stage, the node that it holds and what it knows
   pub stage-at : (t k : ℕ) → t < n → v .thread t .line ≡ k → slot n v t .stage ≡ stageOf k
@@ -82,3 +96,8 @@ module _ (n h : ℕ) (v : View) (g : Ledger) (c : Control n h v g) where
   now t k b e =
       subst (λ j. StageFacts h g t (stageOf j) (slotOfThread (v .thread t)) (v .node (holding (stageOf j) (v .thread t)))) e
       (rw (slot-thread n v t b) at (c .facts t (omega arith)))
+
+  -- what the thread of a line knows when it runs it
+  pub known : {v′ : View} {t : ℕ} {l : Line} {request : Request} {answer : Answer} {k : ℕ} → Does n h v v′ t l request answer → number l ≡ k
+      → StageFacts h g t (stageOf (standsAt k)) (slotOfThread (v .thread t)) (v .node (holding (stageOf (standsAt k)) (v .thread t)))
+  known d q = now _ _ (d .below) (d .stands ∙ ap standsAt q)

@@ -4,13 +4,13 @@ use native.Mathlib.Omega.{arith}
 use mathlib.Core.Path.{_≡_, refl}
 use mathlib.Core.Bool.{Bool, true, false}
 use lib.Dec.{T}
+use lib.Ieee.Bits.{is-true}
 use borrow.Author.Tests.{eq-eqb, ne-eqb}
 use Rattle.machine.specs.declared.Node.{Node}
 use Rattle.invariant.specs.Stages.{Stage, out, wait, combine, l19, l21, dummy, queued}
 use Rattle.invariant.specs.Ledger.{Ledger}
 use Rattle.invariant.specs.View.{View}
 use Rattle.invariant.specs.Control.{Slot, slot, slotOfThread, slotOfTail, held, Queued, StageFacts, waitRow}
-use Rattle.invariant.proofs.Upd.{is-true}
 
 pub slot-thread : (n : ℕ) (v : View) (u : ℕ) → u < n → slot n v u ≡ slotOfThread (v .thread u)
 unfolding slot

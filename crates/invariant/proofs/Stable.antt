@@ -8,7 +8,7 @@ use Rattle.machine.specs.declared.Node.{Node}
 use Rattle.invariant.specs.Stages.{Stage, Combine, c13, c14, c15, c16, c17, c18, c20, out, wait, combine, l19, l21, dummy, queued}
 use Rattle.invariant.specs.Ledger.{Ledger}
 use Rattle.invariant.specs.View.{View}
-use Rattle.invariant.specs.Control.{Slot, slot, held, waits, Fields, Queued, Even, WaitRow, WaitFacts, CombineFacts, combineRow, Turn, Facts19, Facts21, DummyFacts, StageFacts, Order, Control}
+use Rattle.invariant.specs.Control.{Slot, slot, held, waits, NodeFields, Queued, Even, WaitRow, WaitFacts, CombineFacts, combineRow, Turn, Facts19, Facts21, DummyFacts, StageFacts, Order, Control}
 use Rattle.invariant.proofs.Upd.{by-equal}
 use Rattle.invariant.proofs.Waits.{waits-below, waits-free}
 use Rattle.invariant.proofs.Seats.{linked-below}
@@ -36,7 +36,7 @@ pub record Rely (g g′ : Ledger) (u : ℕ) (y : Node) : Type 0 where
   pub still : g .at u ≡ g .b → Still g g′
   pub even : g .at u ≡ g′ .b → (g .at u ≡ g .b → ⊥) → (g′ .a ≡ g′ .b) × (g′ .r ≡ g′ .b)
   pub top : g .at u ≡ g .s → g′ .s ≡ g .s
-  pub fields : Fields g′ (g .at u) y
+  pub fields : NodeFields g′ (g .at u) y
 
 -- the same fields by another ledger
 pub fields-same : (g g′ : Ledger) (i : ℕ) (y : Node)
@@ -44,8 +44,8 @@ pub fields-same : (g g′ : Ledger) (i : ℕ) (y : Node)
     → (g .linked i ≡ true → g′ .node (suc i) ≡ g .node (suc i))
     → waits (g .r) (g .b) i ≡ waits (g′ .r) (g′ .b) i
     → ltb i (g .d) ≡ ltb i (g′ .d)
-    → Fields g i y
-    → Fields g′ i y
+    → NodeFields g i y
+    → NodeFields g′ i y
 fields-same g g′ i y l k w e f = record {
   next = rw l (go (g .linked i) refl (f .next));
   wait = f .wait ∙ w;
@@ -159,14 +159,9 @@ module _ (g g′ : Ledger) (order : Order g) (below : g .linked (g .r) ≡ true 
       let k = rely tt in (queued-stable y′ k _ y (omega (arith, f .1 .last)) (f .0), rw (k .at) (dummy-stable y′ k (f .1)))
 
 -- a slot of the invariant after another thread's line
-pub slot-stable : (n h : ℕ) (v : View) (g g′ : Ledger)
-    → Control n h v g
-    → Grown g g′
-    → (u : ℕ)
-    → u ≤ n
-    → (y : Node)
+pub slot-stable : {n h : ℕ} {v : View} {g g′ : Ledger} → Control n h v g → Grown g g′ → (u : ℕ) → u ≤ n → (y : Node)
     → (T (queued (slot n v u .stage)) → Rely g g′ u y)
     → (T (not (queued (slot n v u .stage))) → y ≡ v .node (held (slot n v u)))
     → StageFacts h g′ u (slot n v u .stage) (slot n v u) y
-slot-stable n h v g g′ c grown u k y rely e =
-    facts-stable g g′ (c .order) (linked-below n h v g c (g .r) (omega (arith, c .order))) grown u h (slot n v u .stage) (slot n v u) (v .node (held (slot n v u))) y rely e (c .facts u k)
+slot-stable {n} {h} {v} {g} {g′} c grown u k y rely e =
+    facts-stable g g′ (c .order) (linked-below c (g .r) (omega (arith, c .order))) grown u h (slot n v u .stage) (slot n v u) _ y rely e (c .facts u k)

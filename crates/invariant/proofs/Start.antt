@@ -19,7 +19,7 @@ pub record Fresh (n : ℕ) (v : View) : Type 0 where
   pub node : v .node 0 ≡ freshNode
 
 -- what holds of Tail's slot and of each thread's holds of each slot
-pub each-slot : (n : ℕ) (v : View) (P : ℕ → Slot → Type 0) → P n (slotOfTail (v .tail .0))
+each-slot : (n : ℕ) (v : View) (P : ℕ → Slot → Type 0) → P n (slotOfTail (v .tail .0))
     → ((u : ℕ) → u < n → P u (slotOfThread (v .thread u))) → (u : ℕ) → u ≤ n → P u (slot n v u)
 unfolding slot
 each-slot n v P last thread u h = by-test (eqb u n) refl

@@ -14,9 +14,10 @@ use Rattle.invariant.specs.Ledger.{Ledger, swapped}
 use Rattle.invariant.specs.View.{View, Does}
 use Rattle.invariant.specs.Control.{slot, slotOfThread, slotOfTail, held, Queued, WaitFacts, waitRow, DummyFacts, StageFacts, Seat, Control}
 use Rattle.invariant.proofs.Upd.{upd-same, upd-other, by-equal, by-two, exchange, exchange-first, exchange-second, exchange-other, exchange-twice}
+use Rattle.invariant.proofs.Noted.{at-swap, at-kept, node-kept}
 use Rattle.invariant.proofs.Waits.{waits-beyond}
 use Rattle.invariant.proofs.Slots.{slot-thread, slot-tail}
-use Rattle.invariant.proofs.Seats.{queued-slot, stage-at, holds, now, tail-facts, at-most, seats-apart}
+use Rattle.invariant.proofs.Seats.{queued-slot, stage-at, holds, known, tail-facts, before-tail}
 use Rattle.invariant.proofs.Stable.{slot-stable, fields-same}
 
 module _ {n h : ℕ} {v v′ : View} {g : Ledger} {t : ℕ} {request : Request} {answer : Answer} (c : Control n h v g)
@@ -32,13 +33,13 @@ module _ {n h : ℕ} {v v′ : View} {g : Ledger} {t : ℕ} {request : Request} 
   apart-tail e = omega (arith, run .below)
 
   at-mine : after .at t ≡ g .s
-  at-mine = upd-other _ _ _ t apart-tail ∙ upd-same _ _ _
+  at-mine = at-swap n t own g L5 refl (run .below)
 
   at-tail : after .at n ≡ suc (g .s)
   at-tail = upd-same _ _ _
 
-  at-other : (u : ℕ) → (u ≡ t → ⊥) → (u ≡ n → ⊥) → after .at u ≡ g .at u
-  at-other u e k = upd-other _ _ _ u k ∙ upd-other _ _ _ u e
+  at-other : (u : ℕ) → u ≤ n → (u ≡ t → ⊥) → (u ≡ n → ⊥) → after .at u ≡ g .at u
+  at-other u k e z = at-kept n t own g L5 u (omega arith) (λ q _. e q)
 
   who-mine : after .who (g .s) ≡ t
   who-mine = upd-other _ _ _ (g .s) (λ e. omega arith) ∙ upd-same _ _ _
@@ -50,7 +51,7 @@ module _ {n h : ℕ} {v v′ : View} {g : Ledger} {t : ℕ} {request : Request} 
   who-other i k = upd-other _ _ _ i (λ e. omega arith) ∙ upd-other _ _ _ i (λ e. omega arith)
 
   node-other : (i : ℕ) → i ≤ g .s → after .node i ≡ g .node i
-  node-other i k = upd-other _ _ _ i (λ e. omega arith)
+  node-other = node-kept n t own g L5
 
   linked-other : (i : ℕ) → i ≤ g .s → after .linked i ≡ g .linked i
   linked-other i k = upd-other _ _ _ i (λ e. omega arith)
@@ -73,7 +74,7 @@ module _ {n h : ℕ} {v v′ : View} {g : Ledger} {t : ℕ} {request : Request} 
   held-now =
       by-two (λ u. u ≤ n → held (slot n v′ u) ≡ held (slot n v (exchange t n u))) t n
       (λ k. rw (mine-now, exchange-first t n apart-tail, slot-tail n v))
-      (λ k. rw (tail-now, exchange-second t n apart-tail) (sym (holds n h v g c t 5 (run .below) (run .stands))))
+      (λ k. rw (tail-now, exchange-second t n apart-tail) (sym (holds c t 5 (run .below) (run .stands))))
       (λ u e z k. rw (exchange-other t n apart-tail u e z) (ap held (other-now u k e z)))
 
   in-range : (u : ℕ) → u ≤ n → exchange t n u ≤ n
@@ -87,15 +88,15 @@ module _ {n h : ℕ} {v v′ : View} {g : Ledger} {t : ℕ} {request : Request} 
   seated i w e k q a = record { who = rw e k; queued = rw e q; at = rw e a }
 
   out-mine : T (queued (slot n v t .stage)) → ⊥
-  out-mine q = rw (stage-at n h v g c t 5 (run .below) (run .stands)) at q
+  out-mine q = rw (stage-at c t 5 (run .below) (run .stands)) at q
 
   -- the positions below s are not those of t and n
   still-seated : (i : ℕ) → g .r ≤ i → i < g .s → Seat n v′ after i
   still-seated i j k =
       let f = c .seat i j (omega arith) in
       let x : g .who i ≡ t → ⊥ = λ e. out-mine (rw e at (f .queued)) in
-      let y : g .who i ≡ n → ⊥ = λ e. omega (arith, rw e at (f .at), tail-facts n h v g c .1 .last) in
-      seated i (g .who i) (who-other i k) (f .who) (rw (other-now _ (f .who) x y) (f .queued)) (at-other _ x y ∙ f .at)
+      let y : g .who i ≡ n → ⊥ = λ e. omega (arith, rw e at (f .at), tail-facts c .1 .last) in
+      seated i (g .who i) (who-other i k) (f .who) (rw (other-now _ (f .who) x y) (f .queued)) (at-other _ (f .who) x y ∙ f .at)
 
   seat-now : (i : ℕ) → g .r ≤ i → i ≤ suc (g .s) → Seat n v′ after i
   seat-now =
@@ -107,8 +108,8 @@ module _ {n h : ℕ} {v v′ : View} {g : Ledger} {t : ℕ} {request : Request} 
   -- the thread has the dummy's node and position
   mine-facts : Queued after t (v .tail .0) (v .node (v .tail .0)) × WaitFacts (waitRow w6) after (after .at t) own (v .tail .0) (v .thread t .served)
   mine-facts =
-      let f = tail-facts n h v g c in
-      let o = now n h v g c t 5 (run .below) (run .stands) in
+      let f = tail-facts c in
+      let o = known c run refl in
       let l = linked-other (g .s) (omega arith) in
       let none = o .none-served tt in
       let linked = l ∙ f .1 .linked in
@@ -125,7 +126,7 @@ module _ {n h : ℕ} {v v′ : View} {g : Ledger} {t : ℕ} {request : Request} 
   -- the own node is the dummy, at the position after it
   dummy-facts : Queued after n own (v .node own) × DummyFacts after (after .at n)
   dummy-facts =
-      let o = now n h v g c t 5 (run .below) (run .stands) in
+      let o = known c run refl in
       let l : after .linked (suc (g .s)) ≡ false = upd-same _ _ _ in
       rw at-tail (
         record {
@@ -140,29 +141,23 @@ module _ {n h : ℕ} {v v′ : View} {g : Ledger} {t : ℕ} {request : Request} 
         record { last = refl; linked = l; even = λ e. absurd (omega (arith, c .order)) },
       )
 
-  -- the others are below s
-  other-below : (u : ℕ) → u ≤ n → (u ≡ n → ⊥) → T (queued (slot n v u .stage)) → g .at u < g .s
-  other-below u k z q =
-      by-equal (g .at u) (g .s)
-      (λ e. absurd (z (seats-apart n h v g c u n k (omega arith) q (rw (slot-tail n v) tt) (e ∙ sym (tail-facts n h v g c .1 .last)))))
-      (λ e. omega (arith, at-most n h v g c u k q))
-
+  -- the others are before Tail
   other-facts : (u : ℕ) → u ≤ n → (u ≡ t → ⊥) → (u ≡ n → ⊥) → StageFacts h after u (slot n v u .stage) (slot n v u) (v .node (held (slot n v u)))
   other-facts u k e z =
-      slot-stable n h v g after c
+      slot-stable c
       (record { s = omega arith; r = omega arith; b = omega arith; node = node-other; linked = λ j i x. linked-other j i ∙ x })
       u k _
       (λ q.
-      let i = other-below u k z q in
+      let i = before-tail c u k z q in
       let l = linked-other (g .at u) (omega arith) in
       record {
-        at = at-other u e z;
+        at = at-other u k e z;
         who = who-other _ i;
         linked = l;
         still = λ x. record { a = refl; d = refl; r = refl; b = refl };
         even = λ x y. absurd (y x);
         top = λ x. absurd (omega arith);
-        fields = fields-same g after _ _ l (λ x. node-other _ i) refl refl (queued-slot n h v g c u k q .fields);
+        fields = fields-same g after _ _ l (λ x. node-other _ i) refl refl (queued-slot c u k q .fields);
       })
       (λ q. refl)
 

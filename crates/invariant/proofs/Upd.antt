@@ -1,9 +1,9 @@
--- A function with one value changed, a choice by two numbers, and a test as an equation. Assumes nothing.
+-- A function with one value changed, and a choice by two numbers. Assumes nothing.
 use Prim.Native.Nat.{ℕ, _≤_, _<_}
 use native.Mathlib.Decide.{ℕ-discrete}
 use mathlib.Core.Path.{_≡_, refl, sym, _∙_, subst}
 use mathlib.Core.Bool.{Bool, true, false}
-use lib.Dec.{T, ltb}
+use lib.Dec.{ltb}
 use borrow.Author.Tests.{eq-eqb, ne-eqb, ltb-true, ltb-false}
 use Rattle.invariant.specs.Ledger.{upd}
 
@@ -29,10 +29,6 @@ by-order {P} j k under over = go (ltb j k) refl
     go : (b : Bool) → ltb j k ≡ b → P
     go true e = under (ltb-true j k e)
     go false e = over (ltb-false j k e)
-
-pub is-true : (b : Bool) → T b → b ≡ true
-is-true true x = refl
-is-true false x = absurd x
 
 -- two numbers exchanged
 unfoldable pub exchange : ℕ → ℕ → ℕ → ℕ

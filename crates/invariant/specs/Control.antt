@@ -43,7 +43,7 @@ abbrev pub waits : ℕ → ℕ → ℕ → Bool
 waits r b i = not (ltb i r || eqb i b)
 
 -- the fields of a position's node
-pub record Fields (g : Ledger) (i : ℕ) (x : Node) : Type 0 where
+pub record NodeFields (g : Ledger) (i : ℕ) (x : Node) : Type 0 where
   pub next : x .next .0 ≡ cond (g .linked i) (g .node (suc i)) 255
   pub wait : x .wait ≡ waits (g .r) (g .b) i
   pub completed : x .completed ≡ ltb i (g .d)
@@ -72,7 +72,7 @@ pub record OutFacts (row : OutRow) (served : ℕ) (x : Node) : Type 0 where
 pub record Queued (g : Ledger) (u cur : ℕ) (x : Node) : Type 0 where
   pub who : g .who (g .at u) ≡ u
   pub node : g .node (g .at u) ≡ cur
-  pub fields : Fields g (g .at u) x
+  pub fields : NodeFields g (g .at u) x
 
 -- a waiting slot at the position that has the turn: nothing is served beyond it
 abbrev pub Even : Ledger → ℕ → Type 0

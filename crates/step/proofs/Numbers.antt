@@ -1,12 +1,12 @@
 -- Lines and their numbers, and where a thread stands that runs one. Assumes nothing.
 use Prim.Native.Nat.{ℕ, zero, suc, _+_, _≤_, _<_}
 use native.Mathlib.Omega.{arith}
-use mathlib.Core.Path.{_≡_, refl}
-use mathlib.Core.Bool.{Bool, true, false, cond, false≢true, and-eq-true-iff}
+use mathlib.Core.Path.{_≡_, refl, sym, ap, subst, _∙_}
+use mathlib.Core.Bool.{Bool, true, false, cond, _||_, false≢true, and-eq-true-iff}
 use mathlib.Core.List.{List, [], _∷_}
 use lib.Dec.{leb, eqb, eqb·suc-zero}
 use lib.ListN.{length, getD}
-use borrow.Author.Tests.{leb-true, lt-leb}
+use borrow.Author.Tests.{eqb-true, leb-true, lt-leb}
 use Rattle.machine.specs.Lines.{Line, printed, lineOf, Blank, L1, L2, L3, L4, L5, L6, L7, L8, L9, L10, L11, L12, L13, L14, L15, L16, L17, L18, L19, L20, L21}
 use Rattle.state.specs.Range.{lineInRange}
 
@@ -47,6 +47,60 @@ number-at i (l ∷ ls) (suc k) e h = omega (arith, number-at (suc i) ls k (e .1)
 
 pub number-of : (k : ℕ) → k ≤ 21 → number (lineOf k) ≡ k
 number-of k h = omega (arith, number-at 0 (Blank ∷ printed) k (omega arith) (omega arith))
+
+-- a property of each element of a list
+abbrev pub EachOf : {A : Type 0} → (A → Type 0) → List A → Type 0
+EachOf P [] = Unit
+EachOf P (x ∷ xs) = P x × EachOf P xs
+
+each-at : (P : Line → Type 0) (ls : List Line) (k : ℕ) → P Blank → EachOf P ls → P (getD ls k Blank)
+each-at P [] k p each = p
+each-at P (l ∷ ls) zero p each = each .0
+each-at P (l ∷ ls) (suc k) p each = each-at P ls k p (each .1)
+
+-- a line is the one of its number
+pub line-at : (l : Line) → lineOf (number l) ≡ l
+line-at Blank = refl
+line-at L1 = refl
+line-at L2 = refl
+line-at L3 = refl
+line-at L4 = refl
+line-at L5 = refl
+line-at L6 = refl
+line-at L7 = refl
+line-at L8 = refl
+line-at L9 = refl
+line-at L10 = refl
+line-at L11 = refl
+line-at L12 = refl
+line-at L13 = refl
+line-at L14 = refl
+line-at L15 = refl
+line-at L16 = refl
+line-at L17 = refl
+line-at L18 = refl
+line-at L19 = refl
+line-at L20 = refl
+line-at L21 = refl
+
+-- what holds of a blank and of each printed line holds of every line
+pub each-line : (P : Line → Type 0) → EachOf P (Blank ∷ printed) → (l : Line) → P l
+each-line P each l = subst P (line-at l) (each-at P (Blank ∷ printed) (number l) (each .0) each)
+
+pub number-most : (l : Line) → number l ≤ 21
+number-most = each-line (λ (l : Line). number l ≤ 21) (omega arith)
+
+-- a line whose number is known
+pub by-line : (P : Line → Type 0) (l : Line) {k : ℕ} → number l ≡ k → P (lineOf k) → P l
+by-line P l q p = subst P (sym (ap lineOf q) ∙ line-at l) p
+
+-- a call's last line is 11 or 21
+pub by-last : {P : Type 0} (k : ℕ) → (eqb k 11 || eqb k 21) ≡ true → (k ≡ 11 → P) → (k ≡ 21 → P) → P
+by-last {P} k last answered leaves = by-test (eqb k 11) refl last
+  where
+    by-test : (b : Bool) → eqb k 11 ≡ b → (b || eqb k 21) ≡ true → P
+    by-test true e z = answered (eqb-true k 11 e)
+    by-test false e z = leaves (eqb-true k 21 z)
 
 -- where a thread stands that runs a line: a blank and line 1 run from idle
 abbrev pub standsAt : ℕ → ℕ

@@ -47,42 +47,45 @@ module _ (s : State) (t : ThreadId) (shaped : Shaped s) (range : inRange s ≡ t
   facts : StateFits s
   facts = state-fits s range
 
-  room : s .n ≤ length (s .threads)
+  pub room : s .n ≤ length (s .threads)
   room = omega (arith, facts .small, shaped .threads)
 
   -- the named thread's facts, at its line and at the line that it runs
-  now : ThreadFits (s .n) (s .h) (named s t) (named s t .line)
-  now =
+  pub thread-fits : ThreadFits (s .n) (s .h) (named s t) (named s t .line)
+  thread-fits =
       thread-iff (s .n) (s .h) (named s t) .0
       (first-at (threadInRange (s .n) (s .h)) (s .n) (s .threads) (t .0) (facts .threads) below room zeroThread)
 
   -- the requests begun fit a row
   pub begun-few : named s t .begun ≤ 16
-  begun-few = omega (arith, now .few, now .counted)
+  begun-few = omega (arith, thread-fits .few, thread-fits .counted)
 
-  run : Runs (named s t .line) (ltb (named s t .begun) (named s t .count)) (line s t)
-  run = runs (named s t .line) (ltb (named s t .begun) (named s t .count)) (now .a-line)
+  pub runs-line : Runs (named s t .line) (ltb (named s t .begun) (named s t .count)) (line s t)
+  runs-line = runs (named s t .line) (ltb (named s t .begun) (named s t .count)) (thread-fits .a-line)
 
   standing : ThreadFits (s .n) (s .h) (named s t) (standsAt (line s t))
-  standing = subst (ThreadFits (s .n) (s .h) (named s t)) (run .stands) now
+  standing = subst (ThreadFits (s .n) (s .h) (named s t)) (runs-line .stands) thread-fits
 
   -- the node that the line points to exists
   pub target-in-range : target s t .0 ≤ s .n
-  target-in-range = target-at (s .n) (s .h) (named s t) (line s t) (run .printed) standing
+  target-in-range = target-at (s .n) (s .h) (named s t) (line s t) (runs-line .printed) standing
 
   -- the request of a call that has begun stands in the thread's row
   request-known : 0 < named s t .begun → knows (s .kind) (request s t) ≡ true
   request-known b =
       known-at (s .kind) (s .requests) (s .n) (s .threads) (t .0) below (facts .rows) room zeroThread (named s t .begun - 1) zeroSlot
-      (omega (arith, now .counted)) (omega (arith, facts .small, now .few, shaped .requests))
+      (omega (arith, thread-fits .counted)) (omega (arith, facts .small, thread-fits .few, shaped .requests))
+
+  pub node-fits : nodeInRange (s .kind) (s .n) (node s t) ≡ true
+  node-fits =
+      first-at (nodeInRange (s .kind) (s .n)) (s .n + 1) (s .nodes) (target s t .0) (facts .nodes)
+      (omega (arith, target-in-range)) (omega (arith, facts .small, shaped .nodes)) zeroNode
 
   leaves : Leaves (s .n) (s .h) (s .kind) (named s t) (node s t) (line s t) (effect s t)
   leaves =
       leaves-at (s .n) (s .h) (s .kind) (named s t) (node s t) (s .tail) (request s t) (applied s t .answer)
-      (facts .small) (facts .tail)
-      (first-at (nodeInRange (s .kind) (s .n)) (s .n + 1) (s .nodes) (target s t .0) (facts .nodes)
-      (omega (arith, target-in-range)) (omega (arith, facts .small, shaped .nodes)) zeroNode)
-      now request-known (line s t) (run .printed) standing (λ e. ltb-true _ _ (run .begins e))
+      (facts .small) (facts .tail) node-fits
+      thread-fits request-known (line s t) (runs-line .printed) standing (λ e. ltb-true _ _ (runs-line .begins e))
 
   head-stays : headInRange (entered s t) ≡ true
   head-stays =

@@ -1,0 +1,50 @@
+-- A record is 16 bytes. Assumes what each law says of thread, request and serving thread.
+use Prim.Native.Nat.{ℕ, suc, _<_}
+use native.Mathlib.Omega.{arith}
+use mathlib.Core.Path.{_≡_}
+use mathlib.Core.Bool.{Bool, true, false, cond}
+use mathlib.Core.List.{List, [], _∷_}
+use lib.ListN.{length, getD}
+use Rattle.object.specs.declared.Answer.{Answer}
+use Rattle.object.specs.declared.Answer.the-variants.{Done, Value, Empty, Full}
+use Rattle.object.specs.Paper.{answerMark}
+use Rattle.bench_file.specs.Bytes.{lowFirst, Each, Byte}
+use Rattle.machine.specs.declared.RetVal.{RetVal}
+use Rattle.machine.specs.declared.RetVal.the-variants.{NoAnswer, Answered}
+use Rattle.step.specs.Entry.{oneIf}
+use Rattle.claims.specs.Entries.{Entry}
+use Rattle.claims.specs.Claims.{Call, same, Serving, servings, returned, shown, shownOf, retMark, recordOf}
+
+-- what holds at each place of a list holds of each element
+pub each-there : {A : Type 0} (P : A → Type 0) (d : A) (l : List A) → ((i : ℕ) → i < length l → P (getD l i d)) → Each P l
+each-there P d [] h = tt
+each-there P d (a ∷ l) h = (h 0 (omega arith), each-there P d l (λ i b. h (suc i) (omega arith)))
+
+-- an answer's mark is not that of none
+pub mark-below : (a : Answer) → answerMark a < 255
+mark-below Done = omega arith
+mark-below (Value v) = omega arith
+mark-below Empty = omega arith
+mark-below Full = omega arith
+
+ret-byte : (r : RetVal) → Byte (retMark r)
+ret-byte NoAnswer = omega arith
+ret-byte (Answered a) = omega (arith, mark-below a)
+
+test-byte : (b : Bool) → Byte (oneIf b)
+test-byte true = omega arith
+test-byte false = omega arith
+
+-- who is shown to serve is a thread, or 255
+pub server-byte : (n : ℕ) → n < 256 → (c : Call) (served : List Serving) → Each (λ (w : Serving). w .server < n) served → Byte (shownOf c served .server)
+server-byte n few c [] each = omega arith
+server-byte n few c (w ∷ served) each = by-test (same c (w .call)) (server-byte n few c served (each .1))
+  where
+    by-test : (b : Bool) → Byte (shownOf c served .server) → Byte (cond b (shown w) (shownOf c served) .server)
+    by-test true later = omega (arith, each .0)
+    by-test false later = later
+
+pub sixteen-bytes : (run : List Entry) (c : Call) → Byte (c .thread) → Byte (c .request) → Byte (shownOf c (servings run) .server)
+    → (length (recordOf run c) ≡ 16) × Each Byte (recordOf run c)
+unfolding lowFirst
+sixteen-bytes run c thread request server = omega (arith, ret-byte (shownOf c (servings run) .ret), test-byte (returned c run))
