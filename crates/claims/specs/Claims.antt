@@ -37,6 +37,7 @@ begunBy t = sumOver (λ e past. oneIf (runsBy t 1 e))
 abbrev pub callOf : Entry → List Entry → Call
 callOf e past = record { thread = e .thread; request = begunBy (e .thread) (e ∷ past) - 1 }
 
+-- whether two calls are one, and whether an entry is of a call
 abbrev pub same : Call → Call → Bool
 same c c′ = eqb (c .thread) (c′ .thread) && eqb (c .request) (c′ .request)
 
@@ -149,10 +150,11 @@ countsOf run = record {
   remote = sumOver (λ e past. remoteIn (e .remote)) run;
 }
 
--- the answers of the plain object of the file's kind and capacity, fed the file's requests in Swap order and nothing else
+-- the file's request of a call. Past a row, where no call of a run is (`of-the-file`), it is put 0
 abbrev pub askedBy : Fields → Call → Request
 askedBy f c = getD (getD (f .rows) (c .thread) []) (c .request) (Put 0)
 
+-- the answers of the plain object of the file's kind and capacity, fed the file's requests in Swap order and nothing else
 abbrev pub plainAnswers : Fields → List Entry → List Answer
 plainAnswers f run = answersFrom (f .head .object) (f .head .capacity) fresh (map (askedBy f) (swapOrder run))
 
