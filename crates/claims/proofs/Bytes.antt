@@ -13,7 +13,8 @@ use Rattle.machine.specs.declared.RetVal.{RetVal}
 use Rattle.machine.specs.declared.RetVal.the-variants.{NoAnswer, Answered}
 use Rattle.step.specs.Entry.{oneIf}
 use Rattle.claims.specs.Entries.{Entry}
-use Rattle.claims.specs.Claims.{Call, same, Serving, servings, returned, shown, shownOf, retMark, recordOf}
+use Rattle.claims.specs.Claims.{SixteenBytes}
+use Rattle.claims.specs.Terms.{Call, same, Serving, servings, returned, shown, shownOf, retMark, recordOf}
 
 -- what holds at each place of a list holds of each element
 pub each-there : {A : Type 0} (P : A → Type 0) (d : A) (l : List A) → ((i : ℕ) → i < length l → P (getD l i d)) → Each P l
@@ -45,6 +46,6 @@ server-byte n few c (w ∷ served) each = by-test (same c (w .call)) (server-byt
     by-test false later = later
 
 pub sixteen-bytes : (run : List Entry) (c : Call) → Byte (c .thread) → Byte (c .request) → Byte (shownOf c (servings run) .server)
-    → (length (recordOf run c) ≡ 16) × Each Byte (recordOf run c)
+    → SixteenBytes (recordOf run c)
 unfolding lowFirst
 sixteen-bytes run c thread request server = omega (arith, ret-byte (shownOf c (servings run) .ret), test-byte (returned c run))

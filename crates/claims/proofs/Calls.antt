@@ -20,7 +20,7 @@ use Rattle.invariant.proofs.Upd.{upd-same, upd-other, by-equal, by-order}
 use Rattle.invariant.proofs.Noted.{notes, at-swap, at-kept}
 use Rattle.invariant.proofs.Threads.{last-points}
 use Rattle.claims.specs.Entries.{Entry, runs, howMany}
-use Rattle.claims.specs.Claims.{Call, Serving, callOf, same, isOf, swapOrder, turnOf, turnOfCall, servingOf, servings, costOf, returned, combined}
+use Rattle.claims.specs.Terms.{Call, Serving, callOf, same, isOf, swapOrder, turnOf, turnOfCall, servingOf, servings, costOf, returned, combined}
 use Rattle.claims.proofs.Goes.{goes, later, was-queued, runs-it, runs-no}
 use Rattle.claims.proofs.History.{Happens, lastCall, Swaps, Turns, Untouched, Open, Served, Settled, Calls}
 use Rattle.claims.proofs.OfCall.{same-told, blank-of-none, not-of, is-of, left, Added, added}

@@ -19,7 +19,7 @@ use Rattle.state.specs.Range.{countsInRange}
 use Rattle.state.proofs.RangeFacts.{counts-iff}
 use Rattle.step.specs.Entry.{oneIf, moreOf, plus, line, row, target, node, accesses, references, countsAfter, entered}
 use Rattle.claims.specs.Entries.{Entry, remoteMarks, entryOf, sumOver, remoteIn, runs}
-use Rattle.claims.specs.Claims.{Call, isOf, costOf, countsOf}
+use Rattle.claims.specs.Terms.{Call, isOf, costOf, countsOf}
 
 at-most-one : (test : Bool) → oneIf test ≤ 1
 at-most-one true = omega arith

@@ -15,7 +15,7 @@ use Rattle.invariant.specs.Ledger.{Ledger}
 use Rattle.invariant.specs.View.{View, goal, Does}
 use Rattle.invariant.specs.Control.{Control}
 use Rattle.claims.specs.Entries.{Entry, howMany, remoteIn}
-use Rattle.claims.specs.Claims.{Call, Serving, begunBy, swapOrder, callGiven, turnOf, turnOfCall, combines, servings, servedIn, costOf, returned, combined, returns}
+use Rattle.claims.specs.Terms.{Call, Serving, begunBy, swapOrder, callGiven, turnOf, turnOfCall, combines, servings, servedIn, costOf, returned, combined, returns}
 
 -- the entry of thread t's line, with k remote references: at a Swap the node is Tail's, at line 16 the one that the line points to
 pub record Tells (v : View) (t : ℕ) (l : Line) (k : ℕ) (e : Entry) : Type 0 where

@@ -19,7 +19,8 @@ use Rattle.step.proofs.Outcome.{thread-fits}
 use Rattle.invariant.specs.View.{viewOf}
 use Rattle.invariant.proofs.Feeding.{answers-take}
 use Rattle.claims.specs.Entries.{Entry, inOrder, runs, howMany}
-use Rattle.claims.specs.Claims.{Call, Serving, ReturnedCall, Holds, HasAnswer, noCall, swapOrder, swapAt, servings, shown, shownOf, recordsOf, recordOf, costOf, plainAnswers, askedBy, servingOf, callOf}
+use Rattle.claims.specs.Terms.{Call, Serving, noCall, swapOrder, swapAt, servings, shown, shownOf, recordsOf, recordOf, costOf, servingOf, callOf}
+use Rattle.claims.specs.Claims.{SixteenBytes, ReturnedCall, Holds, HasAnswer, plainAnswers, askedBy}
 use Rattle.claims.proofs.Bytes.{mark-below, server-byte, sixteen-bytes, each-there}
 use Rattle.claims.proofs.Counted.{cost-fits, tests-few}
 use Rattle.claims.proofs.History.{Settled}
@@ -98,9 +99,9 @@ module _ (f : Fields) (s : State) (run : List Entry) (going : Going f s run) (no
   cost i b = rw (record-at run i noCall (swap-there i b))
 
   -- a record is 16 bytes
-  record-bytes : Each (λ (bytes : List ℕ). (length bytes ≡ 16) × Each Byte bytes) (recordsOf run)
+  record-bytes : Each SixteenBytes (recordsOf run)
   record-bytes =
-      each-there (λ (bytes : List ℕ). (length bytes ≡ 16) × Each Byte bytes) [] (recordsOf run) (λ i b.
+      each-there SixteenBytes [] (recordsOf run) (λ i b.
       let b : i < length (swapOrder run) = omega (arith, length-map (swapOrder run) (recordOf run)) in
       let c = now .swaps .swapped i noCall (omega (arith, now .swaps .swaps)) in
       let fits = thread-fits s (record { 0 = swapAt run i .thread }) (going .sound .shape) (going .sound .range) (c .thread) in

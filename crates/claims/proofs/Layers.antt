@@ -39,7 +39,8 @@ use Rattle.invariant.proofs.Remote.{remote-kept, returns-11, returns-21}
 use Rattle.invariant.proofs.Threads.{serving, last-points}
 use Rattle.invariant.proofs.Data.{data-kept, no-line-out, served-asks, answer-there}
 use Rattle.claims.specs.Entries.{Entry, entryOf, happened, RemoteAsSaid}
-use Rattle.claims.specs.Claims.{Serving, callOf, callGiven, noCall, swapOrder, servingOf, servings, askedBy, earlyBlank, outsideTurn}
+use Rattle.claims.specs.Terms.{Serving, callOf, callGiven, noCall, swapOrder, servingOf, servings}
+use Rattle.claims.specs.Claims.{askedBy, earlyBlank, outsideTurn}
 use Rattle.claims.proofs.Calls.{calls-kept}
 use Rattle.claims.proofs.CopiesSaid.{CopiesSaid, copies-kept, remote-said}
 use Rattle.claims.proofs.Goes.{goes, count-kept}

@@ -7,7 +7,7 @@ use mathlib.Core.List.{List, _∷_}
 use lib.Dec.{eqb}
 use borrow.Author.Tests.{eq-eqb, ne-eqb, eqb-true}
 use Rattle.claims.specs.Entries.{Entry, runs, remoteIn, howMany}
-use Rattle.claims.specs.Claims.{Call, callOf, same, isOf, turnOfCall, costOf, returned, combined, returns}
+use Rattle.claims.specs.Terms.{Call, callOf, same, isOf, turnOfCall, costOf, returned, combined, returns}
 
 abbrev call : ℕ → ℕ → Call
 call t q = record { thread = t; request = q }

@@ -11,7 +11,8 @@ use Rattle.bench_file.specs.Bytes.{lowFirst}
 use Rattle.invariant.specs.Ledger.{Ledger}
 use Rattle.invariant.specs.View.{View}
 use Rattle.claims.specs.Entries.{Entry}
-use Rattle.claims.specs.Claims.{Call, Serving, Shown, HasAnswer, same, noCall, swapOrder, servings, shown, unshown, shownOf, retMark, retValue, recordOf, recordsOf}
+use Rattle.claims.specs.Terms.{Call, Serving, Shown, same, noCall, swapOrder, servings, shown, unshown, shownOf, retMark, retValue, recordOf, recordsOf}
+use Rattle.claims.specs.Claims.{HasAnswer}
 use Rattle.claims.proofs.History.{Swaps}
 use Rattle.claims.proofs.OfCall.{same-itself, not-same}
 

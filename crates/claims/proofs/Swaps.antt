@@ -20,7 +20,7 @@ use Rattle.invariant.proofs.Noted.{Notes, notes, at-swap, at-kept, node-kept}
 use Rattle.invariant.proofs.Seats.{positions-apart, tail-node}
 use Rattle.invariant.proofs.Threads.{queued-from, at-below, serving}
 use Rattle.claims.specs.Entries.{Entry, runs}
-use Rattle.claims.specs.Claims.{Call, Serving, begunBy, callOf, swapOrder, callGiven, servings}
+use Rattle.claims.specs.Terms.{Call, Serving, begunBy, callOf, swapOrder, callGiven, servings}
 use Rattle.claims.proofs.Goes.{goes, later, runs-it, runs-no}
 use Rattle.claims.proofs.History.{Happens, lastCall, Swapped, Swaps}
 

@@ -20,7 +20,7 @@ use Rattle.invariant.proofs.Seats.{now, known}
 use Rattle.invariant.proofs.Noted.{Notes, notes}
 use Rattle.invariant.proofs.Threads.{line-most, one-at-turn}
 use Rattle.claims.specs.Entries.{Entry, howMany}
-use Rattle.claims.specs.Claims.{turnOf, combines, servedIn}
+use Rattle.claims.specs.Terms.{turnOf, combines, servedIn}
 use Rattle.claims.proofs.Goes.{goes}
 use Rattle.claims.proofs.History.{Happens, InTurn, Turns, Ended}
 

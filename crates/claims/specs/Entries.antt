@@ -18,18 +18,22 @@ use Rattle.state.specs.declared.State.{State}
 use Rattle.state.specs.Fresh.{freshState}
 use Rattle.step.specs.Entry.{zeroSlot, oneIf, line, target, node, applied, accesses, entered}
 
--- an entry: the thread that the schedule names and the printed line that it runs, 0 for a blank; at line 5 the node that the Swap gives, else
--- the node of the table's row (of a line without access, the own node); its accesses in order, and for each whether it is remote; whether it
--- is a spin; req and ret of the row's node, as the entry finds them (read by 16, and by 11 and 21); the object's answer at 16, else `Empty`
+-- what one entry of the schedule does
 pub record Entry : Type 0 where
+  -- the thread that the schedule names, and the printed line that it runs, 0 for a blank
   pub thread : ℕ
   pub line : ℕ
+  -- at line 5 the node that the Swap gives, else the node of the table's row, which for a line without access is the own node
   pub node : ℕ
+  -- its accesses in order, and for each whether it is remote
   pub accesses : List Access
   pub remote : List Bool
+  -- line 9 stays
   pub spins : Bool
+  -- req and ret of the row's node, as the entry finds them: line 16 reads the one, lines 11 and 21 the other
   pub req : Announced
   pub ret : RetVal
+  -- the object's answer where line 16 applies a request, else `Empty`
   pub answer : Answer
 
 -- an access is remote if its thread has no valid copy of the location

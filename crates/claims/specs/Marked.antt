@@ -11,7 +11,7 @@ use Rattle.bench_file.specs.Bytes.{lowFirst, bytesOf}
 use Rattle.bench_file.specs.Examples.{sixtyFour}
 use Rattle.state.specs.declared.Counts.{Counts}
 use Rattle.claims.specs.Entries.{entriesOf}
-use Rattle.claims.specs.Claims.{recordsOf, countsOf}
+use Rattle.claims.specs.Terms.{recordsOf, countsOf}
 
 -- the result of a file: its refusal, 0 for none; the five counts; the records, 16 bytes each, in Swap order
 pub record Result : Type 0 where
