@@ -1,4 +1,4 @@
--- Calls not begun, open and returned, entry by entry. Assumes Control, Swaps and Turns, and what the last parameters say of a call that returns.
+-- Calls not begun, open and returned, entry by entry. Assumes Control, Swaps, Turns and Calls before the entry, and what the last parameters say of a call that returns.
 use Prim.Native.Nat.{ℕ, suc, _+_, _*_, _-_, _≤_, _<_}
 use native.Mathlib.Omega.{arith}
 use mathlib.Core.Path.{_≡_, refl, sym, ap, subst, _∙_}
@@ -13,7 +13,8 @@ use Rattle.object.specs.declared.Answer.{Answer}
 use Rattle.machine.specs.declared.RetVal.the-variants.{Answered}
 use Rattle.machine.specs.Lines.{Line}
 use Rattle.step.specs.Entry.{oneIf}
-use Rattle.step.proofs.Numbers.{number, by-last}
+use Rattle.step.specs.Numbers.{number}
+use Rattle.step.proofs.Numbers.{by-last}
 use Rattle.invariant.specs.Ledger.{Ledger, upd, noted, freshLedger}
 use Rattle.invariant.specs.View.{View}
 use Rattle.invariant.proofs.Upd.{upd-same, upd-other, by-equal, by-order}

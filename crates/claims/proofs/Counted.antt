@@ -1,4 +1,4 @@
--- The counts of the state are those of its entries, and they and every call's remote references fit in 32 bits. Assumes nothing.
+-- The machine's counts are those of the entries, and what is counted has 32 bits. Assumes at most 32,768 entries where numbers fit.
 use Prim.Native.Nat.{ℕ, _*_, _≤_, _<_, _^_}
 use native.Mathlib.Omega.{arith}
 use native.Mathlib.Nat.{add-comm}

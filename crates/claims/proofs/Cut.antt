@@ -1,4 +1,4 @@
--- A run cut to j entries is the run of the schedule cut to j; and what every entry keeps holds after the run. Assumes nothing.
+-- The run of a file cut to j entries, and what every entry keeps holds after each cut. Assumes fields in range, but for `stopped`.
 use Prim.Native.Nat.{ℕ, zero, suc, _+_, _≤_, _<_}
 use native.Mathlib.Nat.{min-le-right}
 use native.Mathlib.Omega.{arith}

@@ -11,7 +11,8 @@ use Rattle.object.specs.declared.Answer.{Answer}
 use Rattle.machine.specs.Lines.{Line, Blank, L1, L2, L3, L4, L5, L6, L7, L8, L9, L10, L11, L12, L13, L14, L15, L16, L17, L18, L19, L20, L21}
 use Rattle.machine.specs.Effect.{isNull}
 use Rattle.step.specs.Entry.{oneIf}
-use Rattle.step.proofs.Numbers.{number, each-line, standsAt}
+use Rattle.step.specs.Numbers.{number, standsAt}
+use Rattle.step.proofs.Numbers.{each-line}
 use Rattle.invariant.specs.Ledger.{Ledger}
 use Rattle.invariant.specs.View.{View, does}
 use Rattle.invariant.proofs.Upd.{by-equal, by-order}

@@ -10,7 +10,7 @@ use Rattle.object.specs.declared.Answer.{Answer}
 use Rattle.machine.specs.declared.RetVal.the-variants.{Answered}
 use Rattle.machine.specs.declared.Thread.{Thread}
 use Rattle.machine.specs.Lines.{Line}
-use Rattle.step.proofs.Numbers.{number}
+use Rattle.step.specs.Numbers.{number}
 use Rattle.invariant.specs.Ledger.{Ledger}
 use Rattle.invariant.specs.View.{View, goal, Does}
 use Rattle.invariant.specs.Control.{Control}

@@ -25,7 +25,7 @@ use Rattle.state.specs.declared.State.{State}
 use Rattle.state.specs.Range.{reqInRange}
 use Rattle.state.proofs.RangeFacts.{state-fits}
 use Rattle.step.specs.Entry.{named, line, node, request, applied, references, entered}
-use Rattle.step.proofs.Numbers.{number}
+use Rattle.step.specs.Numbers.{number}
 use Rattle.step.proofs.Outcome.{node-fits}
 use Rattle.invariant.specs.Ledger.{Ledger, noted, upd}
 use Rattle.invariant.specs.View.{viewOf, Does}
@@ -62,6 +62,7 @@ jobsOf f past = map (askedBy f) (swapOrder past)
 abbrev pub answersOf : List Entry → List Answer
 answersOf past = map (λ (w : Serving). w .answer) (servings past)
 
+-- a state of a file's run and its entries, a ledger for it and the cost of each thread's open call: all layers hold
 pub record Layers (f : Fields) (s : State) (past : List Entry) : Type 0 where
   pub ledger : Ledger
   pub cost : ℕ → ℕ

@@ -5,10 +5,10 @@ pub mod Counted
 pub mod Cut
 pub mod Goes
 pub mod History
-pub mod Holding
 pub mod Layers
 pub mod Marked
 pub mod OfCall
+pub mod Parts
 pub mod Run
 pub mod Served
 pub mod Start

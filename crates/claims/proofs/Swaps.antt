@@ -1,4 +1,4 @@
--- Each entry keeps what the entries say of Swap order and of the calls served. Assumes Control, and that the entry is the line's.
+-- Swap order, entry by entry: positions, the calls that nodes were given to, and the calls served. Assumes Control and Swaps before the entry, and that the entry is the line's.
 use Prim.Native.Nat.{ℕ, suc, _+_, _-_, _≤_, _<_}
 use native.Mathlib.Omega.{arith}
 use mathlib.Core.Path.{_≡_, refl, sym, _∙_, ap}
@@ -12,7 +12,7 @@ use Rattle.object.specs.declared.Request.{Request}
 use Rattle.object.specs.declared.Answer.{Answer}
 use Rattle.machine.specs.Lines.{Line}
 use Rattle.step.specs.Entry.{oneIf}
-use Rattle.step.proofs.Numbers.{number}
+use Rattle.step.specs.Numbers.{number}
 use Rattle.invariant.specs.Ledger.{Ledger, noted, freshLedger}
 use Rattle.invariant.specs.View.{View}
 use Rattle.invariant.proofs.Upd.{by-equal, by-order}

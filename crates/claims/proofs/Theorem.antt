@@ -1,4 +1,4 @@
--- Demand 3, for every file and every cut of its schedule. Assumes nothing.
+-- Demand 3, for all fields in range and for every accepted file, at every cut of its schedule. Assumes nothing else.
 use Prim.Native.Nat.{ℕ}
 use mathlib.Core.Path.{_≡_, refl, ap}
 use mathlib.Core.List.{List, [], reverse}
@@ -16,7 +16,7 @@ use Rattle.claims.specs.Claims.{Demand3Of}
 use Rattle.claims.proofs.Calls.{calls-fresh}
 use Rattle.claims.proofs.CopiesSaid.{copies-fresh}
 use Rattle.claims.proofs.Cut.{stopped, cut-in-range}
-use Rattle.claims.proofs.Holding.{holds}
+use Rattle.claims.proofs.Parts.{holds}
 use Rattle.claims.proofs.Layers.{Layers, asks, stays, layers-next}
 use Rattle.claims.proofs.Run.{run-keeps, run-steps}
 use Rattle.claims.proofs.Start.{fresh-start, thread-start}

@@ -1,4 +1,4 @@
--- Turns: the combiner's is the latest, at most one thread combines, and a turn that has ended serves no more. Assumes Control before the entry.
+-- Turns, entry by entry: who combines, which turn is whose, and how many each has served. Assumes Control and Turns before the entry, and that the entry is the line's.
 use Prim.Native.Nat.{ℕ, suc, _+_, _≤_, _<_}
 use native.Mathlib.Omega.{arith}
 use mathlib.Core.Path.{_≡_, refl, sym, ap, _∙_}
@@ -11,7 +11,8 @@ use Rattle.object.specs.declared.Answer.{Answer}
 use Rattle.machine.specs.declared.Thread.{Thread}
 use Rattle.machine.specs.Lines.{Line}
 use Rattle.step.specs.Entry.{oneIf}
-use Rattle.step.proofs.Numbers.{number, by-line}
+use Rattle.step.specs.Numbers.{number}
+use Rattle.step.proofs.Numbers.{by-line}
 use Rattle.invariant.specs.Ledger.{Ledger, noted, freshLedger}
 use Rattle.invariant.specs.View.{View, does}
 use Rattle.invariant.specs.Control.{Control}
@@ -78,9 +79,9 @@ module _ {n h : ℕ} {v v′ : View} {g : Ledger} {t : ℕ} {l : Line} {request 
       (by-equal (number l) 16 (λ z. rw (z, ne-eqb _ turn (apart z)) (omega arith)) (λ other. rw (ne-eqb (number l) 16 other) (omega arith)))
 
   -- who combines has just begun its turn, or did combine and doesn't end it
-  by-combiner : {P : Type 0} (u : ℕ) → combines u (e ∷ past) ≡ true → (u ≡ t → number l ≡ 12 → P)
+  combines-by : {P : Type 0} (u : ℕ) → combines u (e ∷ past) ≡ true → (u ≡ t → number l ≡ 12 → P)
       → (combines u past ≡ true → (u ≡ t → number l ≡ 20 → ⊥) → P) → P
-  by-combiner {P} u told begins stays = go (eqb t u) (eqb (number l) 12) (eqb (number l) 20) refl refl refl (rw (x .tells .thread, x .tells .line) at told)
+  combines-by {P} u told begins stays = go (eqb t u) (eqb (number l) 12) (eqb (number l) 20) refl refl refl (rw (x .tells .thread, x .tells .line) at told)
     where
       go : (same first last : Bool) → eqb t u ≡ same → eqb (number l) 12 ≡ first → eqb (number l) 20 ≡ last
           → cond (same && first || same && last) first (combines u past) ≡ true → P
@@ -202,7 +203,7 @@ module _ {n h : ℕ} {v v′ : View} {g : Ledger} {t : ℕ} {l : Line} {request 
     pub turns-kept : Turns n h v′ (noted n t (v .thread t .own .0) g l) (e ∷ past)
     turns-kept = record {
       combiner = λ u told.
-          by-combiner u told (λ same z. rw same (let next = goes x .turn z in omega (arith, x .does .below)))
+          combines-by u told (λ same z. rw same (let next = goes x .turn z in omega (arith, x .does .below)))
           (λ was going. goes-on u (w .combiner u was) going);
       combining = λ u i.
           by-turn u i (λ same z. rw (same, x .tells .thread, x .tells .line, z, eq-eqb t t refl))

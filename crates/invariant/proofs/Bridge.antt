@@ -10,7 +10,8 @@ use Rattle.machine.specs.Lines.{lineOf}
 use Rattle.state.specs.declared.State.{State}
 use Rattle.state.proofs.RangeFacts.{state-fits}
 use Rattle.step.specs.Entry.{zeroThread, zeroNode, named, line, target, request, applied, effect, entered}
-use Rattle.step.proofs.Numbers.{number, number-of, Runs}
+use Rattle.step.specs.Numbers.{number}
+use Rattle.step.proofs.Numbers.{number-of, Runs}
 use Rattle.step.proofs.Outcome.{room, runs-line, target-in-range}
 use Rattle.step.proofs.Soundness.{Sound}
 use Rattle.invariant.specs.View.{viewOf, Does}

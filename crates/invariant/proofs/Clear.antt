@@ -1,4 +1,5 @@
--- What a thread's line writes: fields of the node that it holds, or as combiner ret, completed or wait of the node at position r. So another thread's copies stay. Assumes Control.
+-- What a thread's line writes: Tail, fields of the node that it holds, or as combiner ret, completed or wait of the node at position r;
+-- so which copies of another thread stay. Assumes Control, n at most 16, and copies of 86 places.
 use Prim.Native.Nat.{ℕ, _≤_, _<_}
 use native.Mathlib.Omega.{arith}
 use mathlib.Core.Path.{_≡_, refl, sym, _∙_, ap, subst}
@@ -18,7 +19,8 @@ use Rattle.machine.specs.declared.SharedAccess.{SharedAccess}
 use Rattle.machine.specs.declared.SharedAccess.the-variants.{NoAccess, Read, Write, Swap}
 use Rattle.machine.specs.Lines.{Line, Blank, L1, L2, L3, L4, L5, L6, L7, L8, L9, L10, L11, L12, L13, L14, L15, L16, L17, L18, L19, L20, L21, rowOf, pointed, Location, tail, part, Access, read, write, accessTo, accessesOf}
 use Rattle.machine.proofs.Written.{writtenFrom, told}
-use Rattle.step.proofs.Numbers.{number, EachOf, standsAt}
+use Rattle.step.specs.Numbers.{number, standsAt}
+use Rattle.step.proofs.Numbers.{EachOf}
 use Rattle.copies.specs.Remote.{place, located}
 use Rattle.copies.proofs.Holding.{field-number-below, Ends}
 use Rattle.invariant.specs.Stages.{Stage, Out, Wait as Waiting, Combine, o2, o3, o4, w6, w7, w9, w10, w11, c13, c15, c16, c17, c18, c20, out, wait, combine, l19, l21, dummy, stageOf, queued}
@@ -55,8 +57,8 @@ pub standing : {n h : ℕ} {v : View} {g : Ledger} → Control n h v g → (u : 
 standing {n} {h} {v} {g} c u k = record { below = k; node = holds c u _ k refl; facts = now c u _ k refl }
 
 -- the fields of a queued node that only its holder writes
-abbrev pub unserved : List Field
-unserved = Req ∷ Next ∷ []
+abbrev pub onlyHolders : List Field
+onlyHolders = Req ∷ Next ∷ []
 
 -- the stages whose node no other thread serves
 abbrev pub settles : Stage → Bool
@@ -96,7 +98,7 @@ module _ {n h : ℕ} {v v′ : View} {g : Ledger} {t : ℕ} {l : Line} {request 
   pub data Hit : Location → Type 0 where
     swapped : Hit tail
     own : {m : NodeId} {f : Field} → m .0 ≡ held (slot n v t) → (T (queued (slot n v t .stage)) → g .linked (g .at t) ≡ false) → Hit (part m f)
-    served : {m : NodeId} {f : Field} → m .0 ≡ g .node (g .r) → g .who (g .b) ≡ t → T (not (among unserved f))
+    served : {m : NodeId} {f : Field} → m .0 ≡ g .node (g .r) → g .who (g .b) ≡ t → T (not (among onlyHolders f))
         → (T (among (Wait ∷ []) f) → v′ .node (m .0) .wait ≡ false) → Hit (part m f)
 
   -- a location that the line does not write
@@ -118,7 +120,7 @@ module _ {n h : ℕ} {v v′ : View} {g : Ledger} {t : ℕ} {l : Line} {request 
 
     -- of its curNode: what the combiner writes is left to look at
     clear-cur : (z : Field)
-        → (g .at u ≡ g .r → g .who (g .b) ≡ t → T (not (among unserved z)) → (T (among (Wait ∷ []) z) → v′ .node (v .thread u .cur .0) .wait ≡ false) → ⊥)
+        → (g .at u ≡ g .r → g .who (g .b) ≡ t → T (not (among onlyHolders z)) → (T (among (Wait ∷ []) z) → v′ .node (v .thread u .cur .0) .wait ≡ false) → ⊥)
         → Clear (part (v .thread u .cur) z)
     clear-cur z far y swapped p = let z : _≡_ {A = ℕ} 0 1 = cc in omega arith
     clear-cur z far y (own {m = m} i j) p =
@@ -130,12 +132,12 @@ module _ {n h : ℕ} {v v′ : View} {g : Ledger} {t : ℕ} {l : Line} {request 
         let mine : held (slot n v u) ≡ g .node (g .r) = rw (stand .node, is-true (queued s) q, ← same) i in
         far (whose (en .control) u (g .r) (omega (arith, stand .below)) (omega arith) swapped-in mine) j (rw field at k) (rw (field, same) at w)
 
-    pub clear-fields : (z : Field) → T (settles s || among unserved z) → Clear (part (v .thread u .cur) z)
+    pub clear-fields : (z : Field) → T (settles s || among onlyHolders z) → Clear (part (v .thread u .cur) z)
     clear-fields z calm =
         clear-cur z (λ i w far lower.
-        either (settles s) (among unserved z) calm
+        either (settles s) (among onlyHolders z) calm
         (λ y. turn-apart (settled h g u s _ _ (en .control .order) (rw y tt) (stand .facts) i) w)
-        (T-not (among unserved z) far))
+        (T-not (among onlyHolders z) far))
 
     -- of its wait, while that lasts
     pub clear-wait : v′ .node (v .thread u .cur .0) .wait ≡ true → Clear (part (v .thread u .cur) Wait)
@@ -189,7 +191,7 @@ module _ {n h : ℕ} {v v′ : View} {g : Ledger} {t : ℕ} {l : Line} {request 
     look-tmp : (f : Field) → Touch (v .thread t .tmp) (read (part (v .thread t .tmp) f))
     look-tmp = look (v .thread t .tmp) tmp-within
 
-    change-tmp : (f : Field) → T (not (among unserved f)) → (T (among (Wait ∷ []) f) → v′ .node (v .thread t .tmp .0) .wait ≡ false)
+    change-tmp : (f : Field) → T (not (among onlyHolders f)) → (T (among (Wait ∷ []) f) → v′ .node (v .thread t .tmp .0) .wait ≡ false)
         → Touch (v .thread t .tmp) (write (part (v .thread t .tmp) f))
     change-tmp f far lower =
         let m = mine (combine w) e .facts in

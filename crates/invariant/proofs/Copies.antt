@@ -1,4 +1,4 @@
--- A thread's copies after a list of accesses: what each thread keeps, what the accessing one gains, and how many accesses are remote. Assumes nothing.
+-- A list of accesses: which copies it leaves, which it gives, and how many of it are remote. Assumes a thread below n, n at most 16 and copies of 86 places where a law says so.
 use Prim.Native.Nat.{ℕ, _+_, _≤_, _<_}
 use native.Mathlib.Omega.{arith}
 use mathlib.Core.Path.{_≡_, refl, sym, _∙_, ap, subst}

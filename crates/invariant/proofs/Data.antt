@@ -25,7 +25,8 @@ use Rattle.machine.specs.declared.Thread.{Thread}
 use Rattle.machine.specs.Lines.{Line, Blank, L1, L2, L3, L4, L5, L6, L7, L8, L9, L10, L11, L12, L13, L14, L15, L16, L17, L18, L19, L20, L21}
 use Rattle.machine.specs.Effect.{isNull, isEmptyReq, isEmptyRet, usesEmpty, takesOut}
 use Rattle.state.specs.Range.{reqInRange}
-use Rattle.step.proofs.Numbers.{number, number-most, by-last, standsAt}
+use Rattle.step.specs.Numbers.{number, standsAt}
+use Rattle.step.proofs.Numbers.{number-most, by-last}
 use Rattle.invariant.specs.Stages.{stageOf, queued}
 use Rattle.invariant.specs.Ledger.{Ledger, freshLedger, upd, noted}
 use Rattle.invariant.specs.View.{View, goal, does, Does}

@@ -6,8 +6,8 @@ pub mod Feeding
 pub mod Frame
 pub mod Lines
 pub mod Noted
+pub mod OwnLine
 pub mod Remote
-pub mod Rounds
 pub mod Seats
 pub mod Slots
 pub mod Stable

@@ -1,4 +1,4 @@
--- Every line keeps the invariant. Assumes Control.
+-- Every line keeps Control. Assumes Control before it, n at most 16 and h above 0.
 use Prim.Native.Nat.{ℕ, suc, _≤_, _<_}
 use native.Mathlib.Omega.{arith}
 use mathlib.Core.Path.{_≡_, refl, sym, _∙_, ap, subst}

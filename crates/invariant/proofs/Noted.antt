@@ -7,7 +7,8 @@ use lib.Dec.{eqb}
 use borrow.Author.Tests.{ne-eqb}
 use Rattle.machine.specs.Lines.{Line}
 use Rattle.step.specs.Entry.{oneIf}
-use Rattle.step.proofs.Numbers.{number, each-line}
+use Rattle.step.specs.Numbers.{number}
+use Rattle.step.proofs.Numbers.{each-line}
 use Rattle.invariant.specs.Ledger.{Ledger, swapped, noted}
 use Rattle.invariant.proofs.Upd.{by-equal, upd-same, upd-other}
 

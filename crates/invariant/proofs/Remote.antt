@@ -1,4 +1,4 @@
--- The bounds on remote references hold after every entry, and so does what a call has made when it returns. Assumes Control.
+-- Every line keeps Remote; what a call has cost when it returns. Assumes Control and Remote before the line, n at most 16, and copies of 86 places.
 use Prim.Native.Nat.{ℕ, _+_, _*_, _≤_, _<_}
 use native.Mathlib.Omega.{arith}
 use mathlib.Core.Path.{_≡_, sym, _∙_, subst}
@@ -14,7 +14,8 @@ use Rattle.machine.specs.declared.Thread.{Thread}
 use Rattle.machine.specs.declared.Field.{Field}
 use Rattle.machine.specs.declared.Field.the-variants.{Req, Wait, Next}
 use Rattle.machine.specs.Lines.{Line, Location, part, read}
-use Rattle.step.proofs.Numbers.{number, by-line, standsAt}
+use Rattle.step.specs.Numbers.{number, standsAt}
+use Rattle.step.proofs.Numbers.{by-line}
 use Rattle.copies.specs.Remote.{holds}
 use Rattle.invariant.specs.Stages.{Stage, Wait as Waiting, w6, w7, w8, w9, w10, w11, w12, out, wait, combine, l19, l21, dummy, stageOf}
 use Rattle.invariant.specs.Ledger.{Ledger, upd}
@@ -23,13 +24,13 @@ use Rattle.invariant.specs.Control.{combineRow, Control}
 use Rattle.invariant.specs.Remote.{among, Within, waitCost, Spent, Remote}
 use Rattle.invariant.proofs.Upd.{by-equal, upd-same, upd-other}
 use Rattle.invariant.proofs.Copies.{among-all, remote-most, kept}
-use Rattle.invariant.proofs.Clear.{made, aimed, Entering, Standing, standing, unserved, settles, Clear, clear-fields, clear-wait, clear-tmp, placed, missed, wait-kept}
-use Rattle.invariant.proofs.Rounds.{afterLine, at-cur, once, own-line}
+use Rattle.invariant.proofs.Clear.{made, aimed, Entering, Standing, standing, onlyHolders, settles, Clear, clear-fields, clear-wait, clear-tmp, placed, missed, wait-kept}
+use Rattle.invariant.proofs.OwnLine.{afterLine, at-cur, once, own-line}
 
 -- a waiting thread's copies are of fields that only its holder writes, or no other thread serves its node
-calm : (w : Waiting) (f : Field) → T (among (waitCost w .copied) f) → T (settles (wait w) || among unserved f)
+calm : (w : Waiting) (f : Field) → T (among (waitCost w .copied) f) → T (settles (wait w) || among onlyHolders f)
 calm w6 f x = absurd x
-calm w7 f x = among-all (Req ∷ []) unserved tt f x
+calm w7 f x = among-all (Req ∷ []) onlyHolders tt f x
 calm w8 f x = x
 calm w9 f x = x
 calm w10 f x = tt

@@ -11,7 +11,7 @@ use Rattle.invariant.specs.Ledger.{freshLedger}
 use Rattle.invariant.specs.View.{View}
 use Rattle.invariant.specs.Control.{Slot, slotOfThread, slotOfTail, slot, held, StageFacts, Control}
 
--- every thread is idle and has a node of its own, which isn't Tail's
+-- every thread is idle with node u + 1, and Tail points to node 0, a fresh node
 pub record Fresh (n : ℕ) (v : View) : Type 0 where
   pub line : (u : ℕ) → u < n → v .thread u .line ≡ 0
   pub own : (u : ℕ) → u < n → v .thread u .own .0 ≡ u + 1

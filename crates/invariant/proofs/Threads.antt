@@ -11,7 +11,8 @@ use Rattle.object.specs.declared.Answer.{Answer}
 use Rattle.machine.specs.Lines.{Line}
 use Rattle.state.specs.Range.{every}
 use Rattle.state.proofs.Kept.{first-at}
-use Rattle.step.proofs.Numbers.{number, by-line, by-last}
+use Rattle.step.specs.Numbers.{number}
+use Rattle.step.proofs.Numbers.{by-line, by-last}
 use Rattle.invariant.specs.Stages.{Stage, dummy, stages, stageOf, queued}
 use Rattle.invariant.specs.Ledger.{Ledger}
 use Rattle.invariant.specs.View.{View, goal, Does}
@@ -40,7 +41,7 @@ pub record Linked (n : ℕ) (v : View) (g : Ledger) (i u : ℕ) : Type 0 where
   pub announced : v .thread u .line ≡ 6 → ⊥
 
 -- line 16 points to node m, that of the first position that is not applied, a thread's
-pub record Serving (n : ℕ) (v : View) (g : Ledger) (m : ℕ) : Type 0 where
+pub record Serves (n : ℕ) (v : View) (g : Ledger) (m : ℕ) : Type 0 where
   pub node : m ≡ g .node (g .a)
   pub below : g .a < g .s
   pub who : Linked n v g (g .a) (g .who (g .a))
@@ -99,7 +100,7 @@ module _ {n h : ℕ} {v : View} {g : Ledger} (c : Control n h v g) where
       has-turn u below from to = rw (stage-at c u _ below refl) (stage-passes atTurn 12 9 refl (omega arith) (v .thread u .line) from (omega arith))
 
   module _ {v′ : View} {t : ℕ} {l : Line} {request : Request} {answer : Answer} (d : Does n h v v′ t l request answer) where
-    pub serving : number l ≡ 16 → Serving n v g (goal v t l)
+    pub serving : number l ≡ 16 → Serves n v g (goal v t l)
     serving q =
         let f = known c d q .1 .1 in
         let same : g .a ≡ g .r = omega (arith, f .applied) in

@@ -9,7 +9,7 @@ use Rattle.invariant.specs.Stages.{Stage, Out, Wait, Combine, idle, o2, 
 use Rattle.invariant.specs.Ledger.{Ledger}
 use Rattle.invariant.specs.View.{View}
 
--- a slot: a thread, or Tail as slot n. Node numbers, the number of tmpNodeNext, and the served counter
+-- a slot: a thread, or Tail as slot n; the numbers of its nodes, and the served counter
 pub record Slot : Type 0 where
   pub stage : Stage
   pub own : ℕ
@@ -162,6 +162,7 @@ pub record Facts21 (h : ℕ) (g : Ledger) (i own cur served : ℕ) : Type 0 wher
   pub some : 0 < served
   pub most : served ≤ h
 
+-- Tail's slot: the last position, whose next isn't written
 pub record DummyFacts (g : Ledger) (i : ℕ) : Type 0 where
   pub last : i ≡ g .s
   pub linked : g .linked (g .s) ≡ false
@@ -193,7 +194,9 @@ pub record Seat (n : ℕ) (v : View) (g : Ledger) (i : ℕ) : Type 0 where
   pub queued : T (queued (slot n v (g .who i) .stage))
   pub at : g .at (g .who i) ≡ i
 
+-- the invariant of a view and its ledger
 pub record Control (n h : ℕ) (v : View) (g : Ledger) : Type 0 where
+  -- how far the serving has come
   pub order : Order g
   -- a thread's next line is 0 or 2 to 21
   pub lines : (u : ℕ) → u < n → T (isThread (stageOf (v .thread u .line)))
@@ -202,4 +205,5 @@ pub record Control (n h : ℕ) (v : View) (g : Ledger) : Type 0 where
   pub apart : (u w : ℕ) → u ≤ n → w ≤ n → held (slot n v u) ≡ held (slot n v w) → u ≡ w
   -- every position from the released on is held
   pub seat : (i : ℕ) → g .r ≤ i → i ≤ g .s → Seat n v g i
+  -- what each slot knows, by its stage
   pub facts : (u : ℕ) → u ≤ n → StageFacts h g u (slot n v u .stage) (slot n v u) (v .node (held (slot n v u)))

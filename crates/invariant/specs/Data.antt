@@ -19,7 +19,7 @@ use Rattle.machine.specs.declared.RetVal.the-variants.{Answered}
 use Rattle.machine.specs.declared.Node.{Node}
 use Rattle.machine.specs.Lines.{Line}
 use Rattle.step.specs.Entry.{appliedAt}
-use Rattle.step.proofs.Numbers.{number}
+use Rattle.step.specs.Numbers.{number}
 use Rattle.invariant.specs.Stages.{stageOf, queued}
 use Rattle.invariant.specs.Ledger.{Ledger}
 use Rattle.invariant.specs.View.{View, goal}

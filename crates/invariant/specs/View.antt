@@ -13,13 +13,15 @@ use Rattle.machine.specs.Lines.{Line, rowOf, pointed}
 use Rattle.machine.specs.Effect.{ran}
 use Rattle.state.specs.declared.State.{State}
 use Rattle.step.specs.Entry.{zeroThread, zeroNode}
-use Rattle.step.proofs.Numbers.{number, standsAt}
+use Rattle.step.specs.Numbers.{number, standsAt}
 
+-- threads and nodes by number, and Tail
 pub record View : Type 0 where
   pub thread : ℕ → Thread
   pub node : ℕ → Node
   pub tail : NodeId
 
+-- the view of a state
 abbrev pub viewOf : State → View
 viewOf s = record { thread = λ u. getD (s .threads) u zeroThread; node = λ m. getD (s .nodes) m zeroNode; tail = s .tail }
 
@@ -28,6 +30,7 @@ module _ (v : View) (t : ℕ) (l : Line) where
   abbrev pub goal : ℕ
   goal = pointed (rowOf l .node) (v .thread t) .0
 
+  -- what the line does, by Algorithm 1
   abbrev pub does : ℕ → Request → Answer → Effect
   does h request answer = ran (v .thread t) (v .node goal) (v .tail) h request answer l
 

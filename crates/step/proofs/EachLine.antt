@@ -22,7 +22,8 @@ use Rattle.machine.specs.Effect.{null, isNull, withNext, withReq, goes, withCur
 use Rattle.state.specs.Range.{reqInRange, nodeInRange, threadInRange}
 use Rattle.state.proofs.Kept.{first-at}
 use Rattle.state.proofs.RangeFacts.{NodeOrNull, there, nowhere, ThreadFits, not-null, leb-iff, points-iff, thread-iff}
-use Rattle.step.proofs.Numbers.{number, number-of, standsAt}
+use Rattle.step.specs.Numbers.{number, standsAt}
+use Rattle.step.proofs.Numbers.{number-of}
 
 -- a test that holds exactly if another fails
 opposite : (a b : Bool) → (b ≡ false → a ≡ true) → (a ≡ true → b ≡ false) → a ≡ not b

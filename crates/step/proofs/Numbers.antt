@@ -1,39 +1,15 @@
--- Lines and their numbers, and where a thread stands that runs one. Assumes nothing.
+-- Laws of lines and their numbers, and of where a thread stands that runs one. Assumes nothing.
 use Prim.Native.Nat.{ℕ, zero, suc, _+_, _≤_, _<_}
 use native.Mathlib.Omega.{arith}
 use mathlib.Core.Path.{_≡_, refl, sym, ap, subst, _∙_}
 use mathlib.Core.Bool.{Bool, true, false, cond, _||_, false≢true, and-eq-true-iff}
 use mathlib.Core.List.{List, [], _∷_}
-use lib.Dec.{leb, eqb, eqb·suc-zero}
+use lib.Dec.{eqb, eqb·suc-zero}
 use lib.ListN.{length, getD}
 use borrow.Author.Tests.{eqb-true, leb-true, lt-leb}
 use Rattle.machine.specs.Lines.{Line, printed, lineOf, Blank, L1, L2, L3, L4, L5, L6, L7, L8, L9, L10, L11, L12, L13, L14, L15, L16, L17, L18, L19, L20, L21}
 use Rattle.state.specs.Range.{lineInRange}
-
--- the number of a line
-abbrev pub number : Line → ℕ
-number Blank = 0
-number L1 = 1
-number L2 = 2
-number L3 = 3
-number L4 = 4
-number L5 = 5
-number L6 = 6
-number L7 = 7
-number L8 = 8
-number L9 = 9
-number L10 = 10
-number L11 = 11
-number L12 = 12
-number L13 = 13
-number L14 = 14
-number L15 = 15
-number L16 = 16
-number L17 = 17
-number L18 = 18
-number L19 = 19
-number L20 = 20
-number L21 = 21
+use Rattle.step.specs.Numbers.{number, standsAt}
 
 -- the numbers of a list's lines are i and those that follow
 abbrev Numbered : ℕ → List Line → Type 0
@@ -101,10 +77,6 @@ by-last {P} k last answered leaves = by-test (eqb k 11) refl last
     by-test : (b : Bool) → eqb k 11 ≡ b → (b || eqb k 21) ≡ true → P
     by-test true e z = answered (eqb-true k 11 e)
     by-test false e z = leaves (eqb-true k 21 z)
-
--- where a thread stands that runs a line: a blank and line 1 run from idle
-abbrev pub standsAt : ℕ → ℕ
-standsAt k = cond (leb k 1) 0 k
 
 -- a thread that stands at a line, with requests left or not, runs line k
 pub record Runs (stand : ℕ) (left : Bool) (k : ℕ) : Type 0 where

@@ -25,7 +25,8 @@ use Rattle.state.proofs.Kept.{first-set, first-at, rows-stay, known-at}
 use Rattle.state.proofs.RangeFacts.{ThreadFits, thread-iff, points-iff, StateFits, state-fits}
 use Rattle.step.specs.Entry.{zeroThread, zeroNode, zeroSlot, servedBy, appliedAt, named, line, target, node, request, applied, effect, countsAfter, entered}
 use Rattle.step.specs.Step.{goesThrough}
-use Rattle.step.proofs.Numbers.{standsAt, Runs, runs}
+use Rattle.step.specs.Numbers.{standsAt}
+use Rattle.step.proofs.Numbers.{Runs, runs}
 use Rattle.step.proofs.EachLine.{Leaves, leaves-at, target-at}
 
 -- what holds of an object, and of it after each request, holds after an entry, whether or not a req is served

@@ -1,3 +1,4 @@
 pub mod Entry
+pub mod Numbers
 pub mod Step
 pub mod Steps

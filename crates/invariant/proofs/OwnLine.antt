@@ -1,4 +1,4 @@
--- Remote references of a thread's own line: from its stage's bound and copies to those of its next stage. Assumes Control.
+-- Remote references of a thread's own line: from its stage's bound and copies to those of its next stage. Assumes Control, n at most 16, and copies of 86 places.
 use Prim.Native.Nat.{ℕ, _+_, _*_, _≤_, _<_}
 use native.Mathlib.Omega.{arith}
 use mathlib.Core.Path.{_≡_, refl, _∙_, ap, subst}
@@ -12,7 +12,8 @@ use Rattle.machine.specs.declared.Field.{Field}
 use Rattle.machine.specs.declared.Field.the-variants.{Req, Wait, Next}
 use Rattle.machine.specs.Effect.{isNull, goes}
 use Rattle.machine.specs.Lines.{Line, Blank, L1, L2, L3, L4, L5, L6, L7, L8, L9, L10, L11, L12, L13, L14, L15, L16, L17, L18, L19, L20, L21, part, read}
-use Rattle.step.proofs.Numbers.{number, EachOf, standsAt}
+use Rattle.step.specs.Numbers.{number, standsAt}
+use Rattle.step.proofs.Numbers.{EachOf}
 use Rattle.copies.specs.Remote.{Referred, referred}
 use Rattle.invariant.specs.Stages.{Combine, c13, c14, c15, c16, c17, c18, c20, w12, wait, combine, l19, stageOf}
 use Rattle.invariant.specs.Ledger.{Ledger}

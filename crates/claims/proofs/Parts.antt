@@ -1,4 +1,4 @@
--- What the invariant of a file's run says of its entries: each part of the claim. Assumes fields in range, and the invariant.
+-- What the invariant of a file's run says of its entries: each part of the claim. Assumes `Going` and `Layers` of the state and its entries.
 use Prim.Native.Nat.{ℕ, _<_}
 use native.Mathlib.Omega.{arith}
 use mathlib.Core.Path.{_≡_, refl, sym, ap, _∙_}
@@ -11,7 +11,7 @@ use Rattle.object.specs.declared.Answer.the-variants.{Empty}
 use Rattle.object.specs.Paper.{answerMark, answerValue}
 use Rattle.object.specs.Plain.{fresh}
 use Rattle.bench_file.specs.Layout.{Fields}
-use Rattle.bench_file.specs.Bytes.{lowFirst, Each, Byte}
+use Rattle.bench_file.specs.Bytes.{lowFirst, Each}
 use Rattle.machine.specs.declared.Announced.the-variants.{NoRequest, Asked}
 use Rattle.state.specs.declared.State.{State}
 use Rattle.state.proofs.RangeFacts.{state-fits}
