@@ -29,14 +29,24 @@ module _ {A : Type 0} (P : A → Type 0) where
   pub each-drop : (k : ℕ) (l : List A) → Each P l → Each P (drop k l)
   each-drop k l p = each-right (take k l) (drop k l) (rw take-append-drop p)
 
+-- what holds at each place of a list holds of each element
+pub each-there : {A : Type 0} (P : A → Type 0) (d : A) (l : List A) → ((i : ℕ) → i < length l → P (getD l i d)) → Each P l
+each-there P d [] h = tt
+each-there P d (a ∷ l) h = (h 0 (omega arith), each-there P d l (λ i b. h (suc i) (omega arith)))
+
+-- and the other way round
+pub each-getD : {A : Type 0} (P : A → Type 0) (l : List A) (i : ℕ) (d : A) → Each P l → i < length l → P (getD l i d)
+each-getD P [] i d e h = absurd (omega arith)
+each-getD P (x ∷ l) zero d e h = e .0
+each-getD P (x ∷ l) (suc i) d e h = each-getD P l i d (e .1) (omega arith)
+
 pub each-map : {A : Type 0} {P Q : A → Type 0} → ((a : A) → P a → Q a) → (l : List A) → Each P l → Each Q l
 each-map f [] p = tt
 each-map f (a ∷ l) p = (f a (p .0), each-map f l (p .1))
 
 -- what is a byte at each place are bytes
 pub each-at : (l : List ℕ) → ((i : ℕ) → Byte (getD l i 0)) → Each Byte l
-each-at [] f = tt
-each-at (b ∷ l) f = (f 0, each-at l (λ i. f (suc i)))
+each-at l f = each-there Byte 0 l (λ i h. f i)
 
 -- the bytes of a list, one after the other
 module _ {A : Type 0} (bytes : A → List ℕ) where

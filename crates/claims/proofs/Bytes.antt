@@ -1,9 +1,8 @@
 -- A record is 16 bytes. Assumes what each law says of thread, request and serving thread.
-use Prim.Native.Nat.{ℕ, suc, _<_}
+use Prim.Native.Nat.{ℕ, _<_}
 use native.Mathlib.Omega.{arith}
 use mathlib.Core.Bool.{Bool, true, false, cond}
 use mathlib.Core.List.{List, [], _∷_}
-use lib.ListN.{length, getD}
 use Rattle.object.specs.declared.Answer.{Answer}
 use Rattle.object.specs.declared.Answer.the-variants.{Done, Value, Empty, Full}
 use Rattle.object.specs.Paper.{answerMark}
@@ -14,11 +13,6 @@ use Rattle.step.specs.Entry.{oneIf}
 use Rattle.claims.specs.Entries.{Entry}
 use Rattle.claims.specs.Claims.{SixteenBytes}
 use Rattle.claims.specs.Terms.{Call, same, Serving, servings, returned, shown, shownOf, retMark, recordOf}
-
--- what holds at each place of a list holds of each element
-pub each-there : {A : Type 0} (P : A → Type 0) (d : A) (l : List A) → ((i : ℕ) → i < length l → P (getD l i d)) → Each P l
-each-there P d [] h = tt
-each-there P d (a ∷ l) h = (h 0 (omega arith), each-there P d l (λ i b. h (suc i) (omega arith)))
 
 -- an answer's mark is not that of none
 pub mark-below : (a : Answer) → answerMark a < 255

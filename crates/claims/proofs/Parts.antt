@@ -12,6 +12,7 @@ use Rattle.object.specs.Paper.{answerMark, answerValue}
 use Rattle.object.specs.Plain.{fresh}
 use Rattle.bench_file.specs.Layout.{Fields}
 use Rattle.bench_file.specs.Bytes.{lowFirst, Each}
+use Rattle.bench_file.proofs.Each.{each-there}
 use Rattle.machine.specs.declared.Announced.the-variants.{NoRequest, Asked}
 use Rattle.state.specs.declared.State.{State}
 use Rattle.state.proofs.RangeFacts.{state-fits}
@@ -21,7 +22,7 @@ use Rattle.invariant.proofs.Feeding.{answers-take}
 use Rattle.claims.specs.Entries.{Entry, inOrder, runs, howMany}
 use Rattle.claims.specs.Terms.{Call, Serving, noCall, swapOrder, swapAt, servings, shown, shownOf, recordsOf, recordOf, costOf, servingOf, callOf}
 use Rattle.claims.specs.Claims.{SixteenBytes, ReturnedCall, Holds, HasAnswer, plainAnswers, askedBy}
-use Rattle.claims.proofs.Bytes.{mark-below, server-byte, sixteen-bytes, each-there}
+use Rattle.claims.proofs.Bytes.{mark-below, server-byte, sixteen-bytes}
 use Rattle.claims.proofs.Counted.{cost-fits, tests-few}
 use Rattle.claims.proofs.History.{Settled}
 use Rattle.claims.proofs.Layers.{Layers, jobsOf, answersOf}

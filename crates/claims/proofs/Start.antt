@@ -1,9 +1,9 @@
 -- The fresh machine of a file: its threads, its requests, that it is sound, and that it is fresh in the invariant's sense. Assumes fields in range.
 use Prim.Native.Nat.{ℕ, zero, suc, _+_, _*_, _≤_, _<_}
 use native.Mathlib.Omega.{arith}
-use native.Mathlib.Nat.{zero-add, add-zero}
+use native.Mathlib.Nat.{zero-add}
 use mathlib.Core.Path.{_≡_, refl, ap, _∙_}
-use mathlib.Core.Bool.{Bool, true, or-true}
+use mathlib.Core.Bool.{true, or-true}
 use mathlib.Core.List.{List, [], _∷_, _++_, map}
 use lib.Dec.{leb, leb·zero}
 use lib.ListN.{length, getD, take, drop, replicate, length-append, length-replicate, getD-replicate, length-map, List·getD-append, List·getD-map}
@@ -13,13 +13,15 @@ use Rattle.object.specs.declared.Request.{Request}
 use Rattle.object.specs.declared.Request.the-variants.{Put}
 use Rattle.bench_file.specs.Layout.{Fields}
 use Rattle.bench_file.specs.Bytes.{Each, RequestInRange, RowInRange, InRange}
+use Rattle.bench_file.proofs.Each.{each-getD}
 use Rattle.bench_file.proofs.Codec.{within-range}
 use Rattle.bench_file.proofs.RoundTrip.{capacity-range, request-known}
-use Rattle.machine.specs.declared.Thread.{Thread}
 use Rattle.state.specs.declared.Slot.{Slot}
-use Rattle.state.specs.Range.{every, slotInRange, rowOfThread, rowsInRange, threadInRange, nodeInRange}
+use Rattle.state.specs.Range.{every, slotInRange, rowsInRange, threadInRange, nodeInRange}
 use Rattle.state.specs.Shape.{Shaped}
-use Rattle.state.specs.Fresh.{freshThread, freshThreads, freshNode}
+use Rattle.state.specs.Fresh.{freshThread, freshNode}
+use Rattle.state.proofs.Kept.{every-first, rows-first}
+use Rattle.state.proofs.Threads.{length-fresh, fresh-at}
 use Rattle.state.proofs.RangeFacts.{NodeOrNull, nowhere, thread-iff}
 use Rattle.step.specs.Entry.{zeroSlot, zeroThread, zeroNode}
 use Rattle.step.proofs.Soundness.{Sound}
@@ -43,37 +45,6 @@ module _ {A : Type 0} (a : A) where
   filled-at m [] i = padded m i
   filled-at m (x ∷ l) zero = refl
   filled-at m (x ∷ l) (suc i) = filled-at m l i
-
--- a test that holds at each of the first n places holds of the first n
-every-first : {A : Type 0} (p : A → Bool) (d : A) (n : ℕ) (l : List A) → ((i : ℕ) → i < n → p (getD l i d) ≡ true) → every p (take n l) ≡ true
-every-first p d zero l f = refl
-every-first p d (suc n) [] f = refl
-every-first p d (suc n) (x ∷ l) f = rw (f 0 (omega arith)) (every-first p d n l (λ i h. f (suc i) (omega arith)))
-
-rows-first : (kind : Kind) (requests : List Slot) (d : Thread) (i n : ℕ) (ths : List Thread)
-    → ((k : ℕ) → k < n → every (slotInRange kind) (rowOfThread requests (i + k) (getD ths k d .count)) ≡ true)
-    → rowsInRange kind requests i (take n ths) ≡ true
-rows-first kind requests d i zero ths f = refl
-rows-first kind requests d i (suc n) [] f = refl
-rows-first kind requests d i (suc n) (th ∷ ths) f =
-    let next : (k : ℕ) → i + suc k ≡ i + 1 + k = λ k. omega arith in
-    rw (rw add-zero at (f 0 (omega arith)))
-    (rows-first kind requests d (i + 1) n ths (λ k h. rw (← next k) (f (suc k) (omega arith))))
-
-each-getD : {A : Type 0} (P : A → Type 0) (l : List A) (i : ℕ) (d : A) → Each P l → i < length l → P (getD l i d)
-each-getD P [] i d e h = absurd (omega arith)
-each-getD P (x ∷ l) zero d e h = e .0
-each-getD P (x ∷ l) (suc i) d e h = each-getD P l i d (e .1) (omega arith)
-
--- the fresh threads
-length-fresh : (i : ℕ) (counts : List ℕ) → length (freshThreads i counts) ≡ length counts
-length-fresh i [] = refl
-length-fresh i (c ∷ counts) = ap suc (length-fresh (i + 1) counts)
-
-fresh-at : (i : ℕ) (counts : List ℕ) (u : ℕ) (d : Thread) → u < length counts → getD (freshThreads i counts) u d ≡ freshThread (i + u) (getD counts u 0)
-fresh-at i [] u d h = absurd (omega arith)
-fresh-at i (c ∷ counts) zero d h = rw add-zero
-fresh-at i (c ∷ counts) (suc u) d h = let next : i + 1 + u ≡ i + suc u = omega arith in rw (← next) (fresh-at (i + 1) counts u d (omega arith))
 
 abbrev slotOf : Request → Slot
 slotOf request = record { request = request }

@@ -60,3 +60,20 @@ module _ (kind : Kind) (requests : List Slot) where
         (first-at (slotInRange kind) (getD ths k d .count) (drop (16 * k) requests) i
         (rw (getD-take, zero-add) at (row-at 0 (take n ths) k d all (rw length-take-le below))) h
         (rw length-drop (omega arith)) none)
+
+-- a test that holds at each of the first n places holds of the first n
+pub every-first : {A : Type 0} (p : A → Bool) (d : A) (n : ℕ) (l : List A) → ((i : ℕ) → i < n → p (getD l i d) ≡ true) → every p (take n l) ≡ true
+every-first p d zero l f = refl
+every-first p d (suc n) [] f = refl
+every-first p d (suc n) (x ∷ l) f = rw (f 0 (omega arith)) (every-first p d n l (λ i h. f (suc i) (omega arith)))
+
+-- the rows of the first n threads pass if each does
+pub rows-first : (kind : Kind) (requests : List Slot) (d : Thread) (i n : ℕ) (ths : List Thread)
+    → ((k : ℕ) → k < n → every (slotInRange kind) (rowOfThread requests (i + k) (getD ths k d .count)) ≡ true)
+    → rowsInRange kind requests i (take n ths) ≡ true
+rows-first kind requests d i zero ths f = refl
+rows-first kind requests d i (suc n) [] f = refl
+rows-first kind requests d i (suc n) (th ∷ ths) f =
+    let next : (k : ℕ) → i + suc k ≡ i + 1 + k = λ k. omega arith in
+    rw (rw add-zero at (f 0 (omega arith)))
+    (rows-first kind requests d (i + 1) n ths (λ k h. rw (← next k) (f (suc k) (omega arith))))

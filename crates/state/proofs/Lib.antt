@@ -1,3 +1,4 @@
 pub mod Kept
 pub mod RangeFacts
+pub mod Threads
 pub mod Walks
