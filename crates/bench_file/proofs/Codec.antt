@@ -13,9 +13,11 @@ use lib.Dec.{leb}
 use borrow.Author.Tests.{leb-true, le-leb}
 use Rattle.object.specs.Paper.{within}
 use Rattle.bench_file.specs.Reading.{Outcome, refused, read, Reader, after, done, rule, field, littleEndian, number, byte, ruledByte, ranged, several}
-use Rattle.bench_file.specs.Bytes.{lowFirst, eachBytes, Each, Byte}
+use Rattle.object.specs.Each.{Each}
+use Rattle.bench_file.specs.Bytes.{lowFirst, eachBytes, Byte}
 use Rattle.bench_file.proofs.Reading.{after-read, field-whole, field-cut}
-use Rattle.bench_file.proofs.Each.{each-append, each-right, each-take, eachBytes-bytes, low-length, low-bytes, low-value, value-low, value-bound}
+use Rattle.object.proofs.Each.{each-append, each-right, each-take}
+use Rattle.bench_file.proofs.Each.{eachBytes-bytes, low-length, low-bytes, low-value, value-low, value-bound}
 
 -- what came before a value that was read, and what a test of a range says
 pub came : {A B : Type 0} (o : Outcome A) (next : A → Reader B) {b : B} {rest : List ℕ} → after o next ≡ read b rest → (a : A) × (mid : List ℕ) × (o ≡ read a mid) × (next a mid ≡ read b rest)

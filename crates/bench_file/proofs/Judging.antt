@@ -10,7 +10,8 @@ use Rattle.bench_file.specs.declared.Judged.{Judged}
 use Rattle.bench_file.specs.declared.Judged.the-variants as Judged
 use Rattle.bench_file.specs.Reading.{Outcome, refused, read, Reader, after, _>>=_, _>>_, done, several, end}
 use Rattle.bench_file.specs.Layout.{Fields, headReader, rowReader, scheduleReader, fileReader, Judgement, accepted, refusedBy, judged, judgeOf}
-use Rattle.bench_file.specs.Bytes.{Each, Byte}
+use Rattle.object.specs.Each.{Each}
+use Rattle.bench_file.specs.Bytes.{Byte}
 use Rattle.bench_file.specs.Cursor.{tallied, sumOver, scheduleAs, rowsAs}
 use Rattle.bench_file.specs.Promise.{judgedAs, judgedRefusal, Judges}
 use Rattle.bench_file.proofs.Numbered.{refused-tabled}

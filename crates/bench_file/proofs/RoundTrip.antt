@@ -19,8 +19,10 @@ use Rattle.object.proofs.Inverse.{number-of-kind, kind-of-number, kind-range, m
 use Rattle.bench_file.specs.declared.Head.{Head}
 use Rattle.bench_file.specs.Reading.{Outcome, refused, read, several, end}
 use Rattle.bench_file.specs.Layout.{Fields, isMark, startReader, limitsReader, headReader, requestReader, rowReader, scheduleReader, fileReader, accepted, judged, judgeOf}
-use Rattle.bench_file.specs.Bytes.{lowFirst, requestBytes, eachBytes, rowBytes, headBytes, bytesOf, Each, Byte, RequestInRange, RowInRange, CapacityInRange, HeadInRange, InRange}
-use Rattle.bench_file.proofs.Each.{each-append, each-map, low-bytes}
+use Rattle.object.specs.Each.{Each}
+use Rattle.bench_file.specs.Bytes.{lowFirst, requestBytes, eachBytes, rowBytes, headBytes, bytesOf, Byte, RequestInRange, RowInRange, CapacityInRange, HeadInRange, InRange}
+use Rattle.object.proofs.Each.{each-append, each-map}
+use Rattle.bench_file.proofs.Each.{low-bytes}
 use Rattle.bench_file.proofs.Codec.{Codec, came, within-range, left-bytes, restated, done-codec, rule-codec, chain, ruled-codec, ruled-byte-codec, ranged-codec, field-codec, number-codec, several-codec}
 
 -- the mark and the version

@@ -7,6 +7,7 @@ use Rattle.object.specs.declared.Kind.{Kind}
 use Rattle.object.specs.declared.Kind.the-variants.{Queue, Stack, Counter}
 use Rattle.object.specs.declared.Request.{Request}
 use Rattle.object.specs.declared.Request.the-variants.{Put, Take, Add}
+use Rattle.object.specs.Each.{Each}
 use Rattle.object.specs.Paper.{kindNumber, requestCode, requestValue}
 use Rattle.bench_file.specs.declared.Head.{Head}
 use Rattle.bench_file.specs.Layout.{Fields}
@@ -37,11 +38,6 @@ headBytes head = 0x43 ∷ 0x43 ∷ 0x53 ∷ 1 ∷ 0 ∷ kindNumber (head .object
 unfoldable pub bytesOf : Fields → List ℕ
 bytesOf f =
     headBytes (f .head) ++ eachBytes rowBytes (f .rows) ++ lowFirst 2 (length (f .schedule)) ++ f .schedule
-
--- what holds of each element of a list
-abbrev pub Each : {A : Type 0} → (A → Type 0) → List A → Type 0
-Each P [] = Unit
-Each P (a ∷ l) = P a × Each P l
 
 -- a byte's value
 abbrev pub Byte : ℕ → Type 0

@@ -4,7 +4,8 @@ use mathlib.Core.Path.{_≡_, refl, _∙_}
 use mathlib.Core.Bool.{Bool, true}
 use mathlib.Core.List.{List, [], _∷_}
 use Rattle.bench_file.specs.Reading.{read, rule, rules}
-use Rattle.bench_file.specs.Bytes.{Each, Tabled}
+use Rattle.object.specs.Each.{Each}
+use Rattle.bench_file.specs.Bytes.{Tabled}
 use Rattle.bench_file.proofs.Reading.{rule-kept}
 use Rattle.bench_file.proofs.Codec.{came, rule-back}
 use Rattle.bench_file.proofs.Numbered.{Numbered, done-numbered, rule-numbered, after-numbered}

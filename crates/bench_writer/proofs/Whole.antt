@@ -14,9 +14,11 @@ use Rattle.object.specs.Paper.{kindNumber}
 use Rattle.object.proofs.Inverse.{number-of-kind, kind-range}
 use Rattle.bench_file.specs.Reading.{read, several}
 use Rattle.bench_file.specs.Layout.{Fields, accepted, requestReader}
-use Rattle.bench_file.specs.Bytes.{requestBytes, eachBytes, bytesOf, Each, RequestInRange, RowInRange, InRange}
+use Rattle.object.specs.Each.{Each}
+use Rattle.bench_file.specs.Bytes.{requestBytes, eachBytes, bytesOf, RequestInRange, RowInRange, InRange}
 use Rattle.bench_file.specs.Cursor.{sumOver}
-use Rattle.bench_file.proofs.Each.{each-append, each-map, eachBytes-append, eachBytes-length}
+use Rattle.object.proofs.Each.{each-append, each-map}
+use Rattle.bench_file.proofs.Each.{eachBytes-append, eachBytes-length}
 use Rattle.bench_file.proofs.Size.{request-length}
 use Rattle.bench_file.proofs.Codec.{within-range, several-codec}
 use Rattle.bench_file.proofs.RoundTrip.{capacity-range, request-codec}

@@ -16,11 +16,13 @@ use Rattle.object.specs.Paper.{kindOf}
 use Rattle.object.proofs.Inverse.{kind-of-number}
 use Rattle.bench_file.specs.Reading.{Outcome, refused, read, after, rules, several}
 use Rattle.bench_file.specs.Layout.{Fields, Judgement, accepted, refusedBy, judged, judgeOf, requestReader}
-use Rattle.bench_file.specs.Bytes.{requestBytes, eachBytes, rowBytes, bytesOf, Each, Byte, RequestInRange, RowInRange, CapacityInRange, InRange}
+use Rattle.object.specs.Each.{Each}
+use Rattle.bench_file.specs.Bytes.{requestBytes, eachBytes, rowBytes, bytesOf, Byte, RequestInRange, RowInRange, CapacityInRange, InRange}
 use Rattle.bench_file.specs.Cursor.{sumOver}
 use Rattle.bench_writer.specs.Writer.{Given, total, every, dealt, interleaved, rawBytes, numberRules, countRules, sizeRules, entryRules, requestsReader, givenReader, givenOf, Writing, fitted, writtenAs, writeOf, WritesAs}
 use Rattle.bench_writer.specs.declared.Written.{Written}
-use Rattle.bench_file.proofs.Each.{each-take, each-drop, each-map, eachBytes-length, eachBytes-take, eachBytes-drop}
+use Rattle.object.proofs.Each.{each-take, each-drop, each-map}
+use Rattle.bench_file.proofs.Each.{eachBytes-length, eachBytes-take, eachBytes-drop}
 use Rattle.bench_file.proofs.Codec.{came, within-range, several-codec}
 use Rattle.bench_file.proofs.Size.{request-length}
 use Rattle.bench_file.proofs.Numbered.{Numbered, done-numbered, after-numbered, several-numbered, request-numbered}

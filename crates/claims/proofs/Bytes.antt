@@ -6,7 +6,8 @@ use mathlib.Core.List.{List, [], _∷_}
 use Rattle.object.specs.declared.Answer.{Answer}
 use Rattle.object.specs.declared.Answer.the-variants.{Done, Value, Empty, Full}
 use Rattle.object.specs.Paper.{answerMark}
-use Rattle.bench_file.specs.Bytes.{lowFirst, Each, Byte}
+use Rattle.object.specs.Each.{Each}
+use Rattle.bench_file.specs.Bytes.{lowFirst, Byte}
 use Rattle.machine.specs.declared.RetVal.{RetVal}
 use Rattle.machine.specs.declared.RetVal.the-variants.{NoAnswer, Answered}
 use Rattle.step.specs.Entry.{oneIf}

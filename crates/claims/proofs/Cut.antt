@@ -6,8 +6,9 @@ use mathlib.Core.Path.{_≡_, refl, ap}
 use mathlib.Core.List.{List, [], _∷_, reverseAux, reverse}
 use lib.ListN.{length, take, length-take}
 use Rattle.bench_file.specs.Layout.{Fields}
-use Rattle.bench_file.specs.Bytes.{Each, InRange}
-use Rattle.bench_file.proofs.Each.{each-take}
+use Rattle.object.specs.Each.{Each}
+use Rattle.bench_file.specs.Bytes.{InRange}
+use Rattle.object.proofs.Each.{each-take}
 use Rattle.machine.specs.declared.ThreadId.{ThreadId}
 use Rattle.state.specs.declared.State.{State}
 use Rattle.step.specs.Entry.{entered}

@@ -12,8 +12,9 @@ use Rattle.object.specs.declared.Request.the-variants.{Put}
 use Rattle.object.specs.declared.Answer.{Answer}
 use Rattle.object.specs.declared.Answer.the-variants.{Empty}
 use Rattle.bench_file.specs.Layout.{Fields}
-use Rattle.bench_file.specs.Bytes.{Each, InRange}
-use Rattle.bench_file.proofs.Each.{each-append}
+use Rattle.object.specs.Each.{Each}
+use Rattle.bench_file.specs.Bytes.{InRange}
+use Rattle.object.proofs.Each.{each-append}
 use Rattle.machine.specs.declared.ThreadId.{ThreadId}
 use Rattle.machine.specs.declared.Announced.{Announced}
 use Rattle.machine.specs.declared.Announced.the-variants.{Asked}

@@ -11,8 +11,9 @@ use Rattle.object.specs.declared.Answer.the-variants.{Empty}
 use Rattle.object.specs.Paper.{answerMark, answerValue}
 use Rattle.object.specs.Plain.{fresh}
 use Rattle.bench_file.specs.Layout.{Fields}
-use Rattle.bench_file.specs.Bytes.{lowFirst, Each}
-use Rattle.bench_file.proofs.Each.{each-there}
+use Rattle.object.specs.Each.{Each}
+use Rattle.bench_file.specs.Bytes.{lowFirst}
+use Rattle.object.proofs.Each.{each-there}
 use Rattle.machine.specs.declared.Announced.the-variants.{NoRequest, Asked}
 use Rattle.state.specs.declared.State.{State}
 use Rattle.state.proofs.RangeFacts.{state-fits}

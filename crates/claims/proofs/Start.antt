@@ -12,8 +12,9 @@ use Rattle.object.specs.declared.Kind.{Kind}
 use Rattle.object.specs.declared.Request.{Request}
 use Rattle.object.specs.declared.Request.the-variants.{Put}
 use Rattle.bench_file.specs.Layout.{Fields}
-use Rattle.bench_file.specs.Bytes.{Each, RequestInRange, RowInRange, InRange}
-use Rattle.bench_file.proofs.Each.{each-getD}
+use Rattle.object.specs.Each.{Each}
+use Rattle.bench_file.specs.Bytes.{RequestInRange, RowInRange, InRange}
+use Rattle.object.proofs.Each.{each-getD}
 use Rattle.bench_file.proofs.Codec.{within-range}
 use Rattle.bench_file.proofs.RoundTrip.{capacity-range, request-known}
 use Rattle.state.specs.declared.Slot.{Slot}

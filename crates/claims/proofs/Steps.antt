@@ -6,7 +6,7 @@ use mathlib.Core.Bool.{true, false}
 use mathlib.Core.List.{List, [], _∷_}
 use lib.ListN.{length}
 use borrow.Author.Tests.{lt-leb}
-use Rattle.bench_file.specs.Bytes.{Each}
+use Rattle.object.specs.Each.{Each}
 use Rattle.machine.specs.declared.ThreadId.{ThreadId}
 use Rattle.machine.specs.Effect.{takesOut}
 use Rattle.state.specs.declared.State.{State}

@@ -4,7 +4,8 @@ use mathlib.Core.Path.{_≡_, refl, ap}
 use mathlib.Core.List.{List, [], reverse}
 use Rattle.machine.specs.declared.Thread.{Thread}
 use Rattle.bench_file.specs.Layout.{Fields, accepted, judgeOf}
-use Rattle.bench_file.specs.Bytes.{Each, Byte, InRange}
+use Rattle.object.specs.Each.{Each}
+use Rattle.bench_file.specs.Bytes.{Byte, InRange}
 use Rattle.bench_file.proofs.RoundTrip.{accepted-in-range}
 use Rattle.invariant.specs.Ledger.{freshLedger}
 use Rattle.invariant.specs.View.{viewOf}

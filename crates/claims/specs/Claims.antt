@@ -14,7 +14,8 @@ use Rattle.object.specs.declared.Answer.the-variants.{Empty}
 use Rattle.object.specs.Paper.{answerMark, answerValue}
 use Rattle.object.specs.Plain.{fresh, answersFrom}
 use Rattle.bench_file.specs.Layout.{Fields}
-use Rattle.bench_file.specs.Bytes.{lowFirst, Each, Byte, InRange}
+use Rattle.object.specs.Each.{Each}
+use Rattle.bench_file.specs.Bytes.{lowFirst, Byte, InRange}
 use Rattle.machine.specs.declared.Announced.the-variants.{Asked}
 use Rattle.state.specs.declared.State.{State}
 use Rattle.step.specs.Steps.{stepsOf}

@@ -4,7 +4,7 @@ use Prim.Native.Nat.{ℕ, _≤_, _<_}
 use native.Mathlib.Omega.{arith}
 use mathlib.Core.Path.{_≡_, refl, sym, _∙_, ap, subst}
 use mathlib.Core.Bool.{Bool, true, false, not, _||_, false≢true}
-use mathlib.Core.List.{List, [], _∷_}
+use mathlib.Core.List.{List, [], _∷_, _++_}
 use lib.Dec.{T, T-not}
 use lib.ListN.{length}
 use lib.Ieee.Bits.{is-true}
@@ -20,7 +20,8 @@ use Rattle.machine.specs.declared.SharedAccess.the-variants.{NoAccess, Read, Wr
 use Rattle.machine.specs.Lines.{Line, Blank, L1, L2, L3, L4, L5, L6, L7, L8, L9, L10, L11, L12, L13, L14, L15, L16, L17, L18, L19, L20, L21, rowOf, pointed, Location, tail, part, Access, read, write, accessTo, accessesOf}
 use Rattle.machine.proofs.Written.{writtenFrom, told}
 use Rattle.step.specs.Numbers.{number, standsAt}
-use Rattle.step.proofs.Numbers.{EachOf}
+use Rattle.object.specs.Each.{Each}
+use Rattle.object.proofs.Each.{each-left, each-right, each-map}
 use Rattle.copies.specs.Remote.{place, located}
 use Rattle.copies.proofs.Holding.{field-number-below, Ends}
 use Rattle.invariant.specs.Stages.{Stage, Out, Wait as Waiting, Combine, o2, o3, o4, w6, w7, w9, w10, w11, c13, c15, c16, c17, c18, c20, out, wait, combine, l19, l21, dummy, stageOf, queued}
@@ -31,7 +32,7 @@ use Rattle.invariant.specs.Remote.{among}
 use Rattle.invariant.proofs.Upd.{by-equal}
 use Rattle.invariant.proofs.Slots.{in-queue}
 use Rattle.invariant.proofs.Seats.{holding, holds, now, stage-at, node-bound, owner, whose}
-use Rattle.invariant.proofs.Copies.{either, each-map, each-split, Misses, Placed}
+use Rattle.invariant.proofs.Copies.{either, Misses, Placed}
 
 -- the node that thread t's line points to, and the line's accesses
 abbrev pub aimed : View → ℕ → Line → NodeId
@@ -82,7 +83,7 @@ settled h g u l21 x y order q f e = absurd (omega (arith, f .1 .past, order .tur
 settled h g u dummy x y order q f e = absurd q
 
 -- an access that writes no wait leaves it
-wait-left : (m : NodeId) (a : SharedAccess) (x y : Node) → EachOf (Misses (part m Wait)) (accessTo m a) → writtenFrom a y x .wait ≡ x .wait
+wait-left : (m : NodeId) (a : SharedAccess) (x y : Node) → Each (Misses (part m Wait)) (accessTo m a) → writtenFrom a y x .wait ≡ x .wait
 wait-left m NoAccess x y h = refl
 wait-left m (Read f) x y h = refl
 wait-left m (Write Req) x y h = refl
@@ -199,7 +200,7 @@ module _ {n h : ℕ} {v v′ : View} {g : Ledger} {t : ℕ} {l : Line} {request 
 
 module _ {n h : ℕ} {v v′ : View} {g : Ledger} {t : ℕ} {request : Request} {answer : Answer} {copies : List ℕ} where
   -- the accesses of thread t's line
-  touches : (l : Line) (en : Entering n h v v′ g t l request answer copies) → EachOf (Touch en (aimed v t l)) (made v t l)
+  touches : (l : Line) (en : Entering n h v v′ g t l request answer copies) → Each (Touch en (aimed v t l)) (made v t l)
   touches Blank en = tt
   touches L1 en = tt
   touches L2 en = (change-own en o2 refl Next, tt)
@@ -224,10 +225,10 @@ module _ {n h : ℕ} {v v′ : View} {g : Ledger} {t : ℕ} {request : Request} 
   touches L21 en = (look-cur en l21 refl tt Ret, tt)
 
   module _ {l : Line} (en : Entering n h v v′ g t l request answer copies) where
-    pub placed : EachOf (Placed (aimed v t l)) (made v t l)
+    pub placed : Each (Placed (aimed v t l)) (made v t l)
     placed = each-map {P = Touch en (aimed v t l)} (λ a b. b .placed) (made v t l) (touches l en)
 
-    pub missed : (x : Location) → Clear en x → EachOf (Misses x) (made v t l)
+    pub missed : (x : Location) → Clear en x → Each (Misses x) (made v t l)
     missed x clear = each-map {P = Touch en (aimed v t l)} (λ a b r. clear (located a) (b .ends r)) (made v t l) (touches l en)
 
     -- the wait of a node stays if no access writes it
@@ -237,9 +238,11 @@ module _ {n h : ℕ} {v v′ : View} {g : Ledger} {t : ℕ} {request : Request} 
         (λ e.
         let p = aimed v t l in
         let same : m ≡ p = ap (λ (i : ℕ). record { 0 = i }) e in
-        let misses = each-split (Misses (part p Wait)) (accessTo p (rowOf l .first)) (accessTo p (rowOf l .second)) (rw same at (missed (part m Wait) clear)) in
+        let first = accessTo p (rowOf l .first) in
+        let second = accessTo p (rowOf l .second) in
+        let misses : Each (Misses (part p Wait)) (first ++ second) = rw same at (missed (part m Wait) clear) in
         rw same
         (ap (λ (x : Node). x .wait) (en .does .there ∙ told (v .thread t) (v .node (p .0)) (v .tail) h request answer l .node)
-        ∙ wait-left p (rowOf l .second) _ _ (misses .1)
-        ∙ wait-left p (rowOf l .first) _ _ (misses .0)))
+        ∙ wait-left p (rowOf l .second) _ _ (each-right (Misses (part p Wait)) first second misses)
+        ∙ wait-left p (rowOf l .first) _ _ (each-left (Misses (part p Wait)) first second misses)))
         (λ a. ap (λ (x : Node). x .wait) (en .does .elsewhere (m .0) a))

@@ -3,7 +3,7 @@ use Prim.Native.Nat.{ℕ, _+_, _≤_, _<_}
 use native.Mathlib.Omega.{arith}
 use mathlib.Core.Path.{_≡_, refl, sym, _∙_, ap, subst}
 use mathlib.Core.Bool.{Bool, true, false, cond, _||_, _&&_}
-use mathlib.Core.List.{List, [], _∷_, _++_}
+use mathlib.Core.List.{List, [], _∷_}
 use lib.Dec.{T, eqb}
 use lib.ListN.{length, length-set}
 use borrow.Author.Tests.{eqb-true}
@@ -12,7 +12,7 @@ use Rattle.machine.specs.declared.Field.{Field}
 use Rattle.machine.specs.declared.Field.the-variants.{Req}
 use Rattle.machine.specs.Effect.{null}
 use Rattle.machine.specs.Lines.{Location, tail, part, Access, read, write, swap}
-use Rattle.step.proofs.Numbers.{EachOf}
+use Rattle.object.specs.Each.{Each}
 use Rattle.copies.specs.Remote.{fieldNumber, place, located, holds, remoteOf, copiesAfter, referred}
 use Rattle.copies.proofs.Holding.{place-injective, elsewhere-kept, read-kept, own-held, Ends}
 use Rattle.invariant.specs.Remote.{among, Copied}
@@ -48,15 +48,6 @@ pub among-all : (xs ys : List Field) → T (allAmong xs ys) → (f : Field) → 
 among-all [] ys t f h = absurd h
 among-all (x ∷ xs) ys t f h =
     both (among ys x) (allAmong xs ys) t (λ a b. by-front (λ f. T (among ys f)) x xs f a (among-all xs ys b f) h)
-
--- properties of each access of a list
-pub each-map : {P Q : Access → Type 0} → ((a : Access) → P a → Q a) → (l : List Access) → EachOf P l → EachOf Q l
-each-map f [] h = tt
-each-map f (a ∷ rest) h = (f a (h .0), each-map f rest (h .1))
-
-pub each-split : (P : Access → Type 0) (l m : List Access) → EachOf P (l ++ m) → EachOf P l × EachOf P m
-each-split P [] m h = (tt, h)
-each-split P (a ∷ rest) m h = let p = each-split P rest m (h .1) in ((h .0, p .0), p .1)
 
 -- an access that does not write this location
 abbrev pub Misses : Location → Access → Type 0
@@ -123,15 +114,15 @@ module _ (n t : ℕ) (k : t < n) (small : n ≤ 16) where
           (λ d. apart a inside d (λ d r. miss d r (sym e)) (rw e at h)))
 
   -- after a list of accesses: a copy is lost only by another thread's write
-  pub kept : (accesses : List Access) (copies : List ℕ) → length copies ≡ 86 → (m : NodeId) → EachOf (Placed m) accesses → (u : ℕ) (x : Location)
-      → ((u ≡ t → ⊥) → EachOf (Misses x) accesses) → holds copies u x ≡ true → holds (referred n t copies accesses .copies) u x ≡ true
+  pub kept : (accesses : List Access) (copies : List ℕ) → length copies ≡ 86 → (m : NodeId) → Each (Placed m) accesses → (u : ℕ) (x : Location)
+      → ((u ≡ t → ⊥) → Each (Misses x) accesses) → holds copies u x ≡ true → holds (referred n t copies accesses .copies) u x ≡ true
   kept [] copies len m p u x miss h = h
   kept (a ∷ rest) copies len m p u x miss h =
       kept rest (copiesAfter n t a copies) (length-set copies _ _ ∙ len) m (p .1) u x (λ d. miss d .1)
       (kept-after copies len a (p .0 .fits) u x (λ d. miss d .0) h)
 
   -- the thread's own copies stay
-  pub own-kept : (accesses : List Access) (copies : List ℕ) → length copies ≡ 86 → (m′ : NodeId) → EachOf (Placed m′) accesses → (m : NodeId) (fields : List Field)
+  pub own-kept : (accesses : List Access) (copies : List ℕ) → length copies ≡ 86 → (m′ : NodeId) → Each (Placed m′) accesses → (m : NodeId) (fields : List Field)
       → Copied copies t m fields → Copied (referred n t copies accesses .copies) t m fields
   own-kept accesses copies len m′ p m fields h f x = kept accesses copies len m′ p t (part m f) (λ d. absurd (d refl)) (h f x)
 
@@ -158,7 +149,7 @@ module _ (n t : ℕ) (k : t < n) (small : n ≤ 16) where
     pub most : referred n t copies accesses .remote ≤ prices fields accesses
     pub copied : Copied (referred n t copies accesses .copies) t m (allGained fields accesses)
 
-  pub paid : (accesses : List Access) (copies : List ℕ) → length copies ≡ 86 → (m : NodeId) (fields : List Field) → EachOf (Placed m) accesses
+  pub paid : (accesses : List Access) (copies : List ℕ) → length copies ≡ 86 → (m : NodeId) (fields : List Field) → Each (Placed m) accesses
       → Copied copies t m fields → Paid accesses copies m fields
   paid [] copies len m fields p h = record { most = omega arith; copied = h }
   paid (a ∷ rest) copies len m fields p h =

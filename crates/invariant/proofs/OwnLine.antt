@@ -13,7 +13,7 @@ use Rattle.machine.specs.declared.Field.the-variants.{Req, Wait, Next}
 use Rattle.machine.specs.Effect.{isNull, goes}
 use Rattle.machine.specs.Lines.{Line, Blank, L1, L2, L3, L4, L5, L6, L7, L8, L9, L10, L11, L12, L13, L14, L15, L16, L17, L18, L19, L20, L21, part, read}
 use Rattle.step.specs.Numbers.{number, standsAt}
-use Rattle.step.proofs.Numbers.{EachOf}
+use Rattle.object.specs.Each.{Each}
 use Rattle.copies.specs.Remote.{Referred, referred}
 use Rattle.invariant.specs.Stages.{Combine, c13, c14, c15, c16, c17, c18, c20, w12, wait, combine, l19, stageOf}
 use Rattle.invariant.specs.Ledger.{Ledger}
@@ -51,7 +51,7 @@ module _ {n h : ℕ} {v v′ : View} {g : Ledger} {t : ℕ} {request : Request} 
 
     -- a line at curNode, or at tmpNode
     module _ {cur tmp : NodeId} {cost bound bound′ : ℕ} {ofCur ofTmp ofCur′ ofTmp′ : List Field} (w : Within copies t cur tmp cost bound ofCur ofTmp) where
-      pub at-cur : EachOf (Placed cur) (made v t l) → bound + prices ofCur (made v t l) ≤ bound′ → T (allAmong ofCur′ (allGained ofCur (made v t l))) → T (allAmong ofTmp′ ofTmp)
+      pub at-cur : Each (Placed cur) (made v t l) → bound + prices ofCur (made v t l) ≤ bound′ → T (allAmong ofCur′ (allGained ofCur (made v t l))) → T (allAmong ofTmp′ ofTmp)
           → Within (after .copies) t cur tmp (cost + after .remote) bound′ ofCur′ ofTmp′
       at-cur p i x y =
           let q = paid n t (en .does .below) (en .small) (made v t l) copies (en .len) cur ofCur p (w .cur-copied) in
@@ -63,21 +63,21 @@ module _ {n h : ℕ} {v v′ : View} {g : Ledger} {t : ℕ} {request : Request} 
           }
 
     at-tmp : {cur tmp : NodeId} {cost bound bound′ : ℕ} {ofCur ofTmp ofCur′ ofTmp′ : List Field} → Within copies t cur tmp cost bound ofCur ofTmp
-        → EachOf (Placed tmp) (made v t l) → bound + prices ofTmp (made v t l) ≤ bound′ → T (allAmong ofCur′ ofCur) → T (allAmong ofTmp′ (allGained ofTmp (made v t l)))
+        → Each (Placed tmp) (made v t l) → bound + prices ofTmp (made v t l) ≤ bound′ → T (allAmong ofCur′ ofCur) → T (allAmong ofTmp′ (allGained ofTmp (made v t l)))
         → Within (after .copies) t cur tmp (cost + after .remote) bound′ ofCur′ ofTmp′
     at-tmp w p i x y = turned (at-cur (turned w) p i y x)
 
     -- in the first round tmpNode is curNode
-    first-round : (w : Combine) → stageOf (standsAt (number l)) ≡ combine w → EachOf (Placed (v .thread t .tmp)) (made v t l)
-        → v .thread t .served ≡ combineRow w .counted → EachOf (Placed (v .thread t .cur)) (made v t l)
+    first-round : (w : Combine) → stageOf (standsAt (number l)) ≡ combine w → Each (Placed (v .thread t .tmp)) (made v t l)
+        → v .thread t .served ≡ combineRow w .counted → Each (Placed (v .thread t .cur)) (made v t l)
     first-round w e p z =
         let f = mine en (combine w) e .facts in
         let even : g .r ≡ g .at t = omega (arith, f .1 .1 .counted, f .1 .0 .turn) in
         let same : v .thread t .tmp ≡ v .thread t .cur = ap (λ (i : ℕ). record { 0 = i }) (f .1 .1 .serving ∙ ap (g .node) even ∙ f .0 .node) in
-        subst (λ (m : NodeId). EachOf (Placed m) (made v t l)) same p
+        subst (λ (m : NodeId). Each (Placed m) (made v t l)) same p
 
     -- from one line of the turn to another
-    turn-step : (w w′ : Combine) (served′ : ℕ) {cost : ℕ} → stageOf (standsAt (number l)) ≡ combine w → EachOf (Placed (v .thread t .tmp)) (made v t l)
+    turn-step : (w w′ : Combine) (served′ : ℕ) {cost : ℕ} → stageOf (standsAt (number l)) ≡ combine w → Each (Placed (v .thread t .tmp)) (made v t l)
         → (served′ ≡ combineRow w′ .counted → v .thread t .served ≡ combineRow w .counted)
         → (combineRow w′ .counted < served′ → combineRow w .counted < v .thread t .served)
         → turnCost w .first + prices (turnCost w .copied) (made v t l) ≤ turnCost w′ .first

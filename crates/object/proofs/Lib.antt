@@ -1,3 +1,4 @@
+pub mod Each
 pub mod Inverse
 pub mod Plainly
 pub mod Refusal

@@ -1,3 +1,4 @@
 pub mod Apply
+pub mod Each
 pub mod Paper
 pub mod Plain

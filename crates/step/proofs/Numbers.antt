@@ -7,6 +7,7 @@ use mathlib.Core.List.{List, [], _∷_}
 use lib.Dec.{eqb, eqb·suc-zero}
 use lib.ListN.{length, getD}
 use borrow.Author.Tests.{eqb-true, leb-true, lt-leb}
+use Rattle.object.specs.Each.{Each}
 use Rattle.machine.specs.Lines.{Line, printed, lineOf, Blank, L1, L2, L3, L4, L5, L6, L7, L8, L9, L10, L11, L12, L13, L14, L15, L16, L17, L18, L19, L20, L21}
 use Rattle.state.specs.Range.{lineInRange}
 use Rattle.step.specs.Numbers.{number, standsAt}
@@ -24,15 +25,11 @@ number-at i (l ∷ ls) (suc k) e h = omega (arith, number-at (suc i) ls k (e .1)
 pub number-of : (k : ℕ) → k ≤ 21 → number (lineOf k) ≡ k
 number-of k h = omega (arith, number-at 0 (Blank ∷ printed) k (omega arith) (omega arith))
 
--- a property of each element of a list
-abbrev pub EachOf : {A : Type 0} → (A → Type 0) → List A → Type 0
-EachOf P [] = Unit
-EachOf P (x ∷ xs) = P x × EachOf P xs
-
-each-at : (P : Line → Type 0) (ls : List Line) (k : ℕ) → P Blank → EachOf P ls → P (getD ls k Blank)
-each-at P [] k p each = p
-each-at P (l ∷ ls) zero p each = each .0
-each-at P (l ∷ ls) (suc k) p each = each-at P ls k p (each .1)
+-- a place past the list stands for a blank
+each-or-blank : (P : Line → Type 0) (ls : List Line) (k : ℕ) → P Blank → Each P ls → P (getD ls k Blank)
+each-or-blank P [] k p each = p
+each-or-blank P (l ∷ ls) zero p each = each .0
+each-or-blank P (l ∷ ls) (suc k) p each = each-or-blank P ls k p (each .1)
 
 -- a line is the one of its number
 pub line-at : (l : Line) → lineOf (number l) ≡ l
@@ -60,8 +57,8 @@ line-at L20 = refl
 line-at L21 = refl
 
 -- what holds of a blank and of each printed line holds of every line
-pub each-line : (P : Line → Type 0) → EachOf P (Blank ∷ printed) → (l : Line) → P l
-each-line P each l = subst P (line-at l) (each-at P (Blank ∷ printed) (number l) (each .0) each)
+pub each-line : (P : Line → Type 0) → Each P (Blank ∷ printed) → (l : Line) → P l
+each-line P each l = subst P (line-at l) (each-or-blank P (Blank ∷ printed) (number l) (each .0) each)
 
 pub number-most : (l : Line) → number l ≤ 21
 number-most = each-line (λ (l : Line). number l ≤ 21) (omega arith)

@@ -2,7 +2,8 @@
 use mathlib.Core.Path.{sym, ap, _∙_}
 use native.Mathlib.Omega.{arith}
 use borrow.Author.Needs.{needs}
-use Rattle.bench_file.specs.Bytes.{Each, Byte}
+use Rattle.object.specs.Each.{Each}
+use Rattle.bench_file.specs.Bytes.{Byte}
 use Rattle.bench_file.specs.Cursor.{headRead}
 use Rattle.bench_file.proofs.Judging.{judged-head, judged-refused, judges}
 use Rattle.bench_file.proofs.Each.{each-at}

@@ -5,7 +5,8 @@ use native.Mathlib.Nat.{zero-add}
 use native.Mathlib.Omega.{arith}
 use lib.ListN.{length}
 use borrow.Author.Needs.{needs}
-use Rattle.bench_file.specs.Bytes.{Each, Byte}
+use Rattle.object.specs.Each.{Each}
+use Rattle.bench_file.specs.Bytes.{Byte}
 use Rattle.bench_file.specs.Layout.{Fields}
 use Rattle.bench_writer.specs.Writer.{Given, givenBy, givenReader, rawBytes}
 use Rattle.bench_file.proofs.Each.{each-at}
