@@ -17,6 +17,7 @@ use Rattle.invariant.proofs.Upd.{upd-same, upd-other, by-equal, by-two,
 use Rattle.invariant.proofs.Noted.{at-swap, at-kept, node-kept}
 use Rattle.invariant.proofs.Waits.{waits-beyond}
 use Rattle.invariant.proofs.Slots.{slot-thread, slot-tail}
+use Rattle.invariant.proofs.Frame.{kept}
 use Rattle.invariant.proofs.Seats.{queued-slot, stage-at, holds, known, tail-facts, before-tail}
 use Rattle.invariant.proofs.Stable.{slot-stable, fields-same}
 
@@ -67,7 +68,7 @@ module _ {n h : ℕ} {v v′ : View} {g : Ledger} {t : ℕ} {request : Request} 
   other-now u k e z = slot-thread n v′ u (omega arith) ∙ ap slotOfThread (run .others u e) ∙ sym (slot-thread n v u (omega arith))
 
   node-now : (k : ℕ) → v′ .node k ≡ v .node k
-  node-now k = by-equal k own (λ e. rw e (run .there)) (run .elsewhere k)
+  node-now k = kept run refl k .there
 
   -- slots t and n exchange what they hold
   held-now : (u : ℕ) → u ≤ n → held (slot n v′ u) ≡ held (slot n v (exchange t n u))
