@@ -6,7 +6,8 @@ use Rattle.bench_file.specs.Layout.{startReader, limitsReader, headReader, requ
 use Rattle.bench_file.specs.Bytes.{lowFirst, eachBytes, bytesOf}
 use Rattle.bench_file.specs.Examples.{sixtyFour}
 use Rattle.claims.specs.Entries.{entriesFrom}
-use Rattle.claims.specs.Marked.{Marked, resultOf, markedRuns}
+use Rattle.claims.specs.Marked.{Marked, markedRuns}
+use Rattle.claims.specs.Result.{resultOf}
 
 pub marked-runs : map (λ (m : Marked). resultOf (m .file)) markedRuns ≡ map (λ (m : Marked). m .result) markedRuns
 unfolding judgeOf fileReader headReader startReader limitsReader rowReader requestReader scheduleReader ruledByte byte several field littleEndian end lowFirst eachBytes bytesOf sixtyFour entriesFrom markedRuns

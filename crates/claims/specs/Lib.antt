@@ -1,4 +1,5 @@
 pub mod Claims
 pub mod Entries
 pub mod Marked
+pub mod Result
 pub mod Terms

@@ -1,0 +1,25 @@
+-- The result of a file's run, from its bytes: what the service that runs a file answers, and the records that it writes.
+use Prim.Native.Nat.{ℕ}
+use mathlib.Core.List.{List, [], reverse}
+use Rattle.bench_file.specs.Layout.{Judgement, accepted, refusedBy, judgeOf}
+use Rattle.state.specs.declared.Counts.{Counts}
+use Rattle.claims.specs.Entries.{entriesOf}
+use Rattle.claims.specs.Terms.{recordsOf, countsOf}
+
+-- the result of a file: its refusal, 0 for none; the five counts; the records, 16 bytes each, in Swap order
+pub record Result : Type 0 where
+  pub refusal : ℕ
+  pub counts : Counts
+  pub records : List (List ℕ)
+
+-- records, turns, blanks, spins and remote references
+abbrev pub counted : ℕ → ℕ → ℕ → ℕ → ℕ → Counts
+counted records turns blanks spins remote = record { records = records; turns = turns; blanks = blanks; spins = spins; remote = remote }
+
+-- a file that is accepted is run; a refusal has its number, with all counts 0 and no record
+abbrev pub ranIf : Judgement → Result
+ranIf (accepted f) = let run = reverse (entriesOf f) in record { refusal = 0; counts = countsOf run; records = recordsOf run }
+ranIf (refusedBy number) = record { refusal = number; counts = counted 0 0 0 0 0; records = [] }
+
+abbrev pub resultOf : List ℕ → Result
+resultOf bytes = ranIf (judgeOf bytes)
