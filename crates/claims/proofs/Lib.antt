@@ -9,6 +9,7 @@ pub mod Layers
 pub mod Marked
 pub mod OfCall
 pub mod Parts
+pub mod Room
 pub mod Run
 pub mod Served
 pub mod Start

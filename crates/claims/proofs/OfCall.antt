@@ -9,7 +9,7 @@ use borrow.Author.Tests.{eq-eqb, ne-eqb, eqb-true}
 use Rattle.claims.specs.Entries.{Entry, runs, remoteIn, howMany}
 use Rattle.claims.specs.Terms.{Call, callOf, same, isOf, turnOfCall, costOf, returned, combined, returns}
 
-abbrev call : ℕ → ℕ → Call
+abbrev pub call : ℕ → ℕ → Call
 call t q = record { thread = t; request = q }
 
 pub same-itself : (c : Call) → same c c ≡ true

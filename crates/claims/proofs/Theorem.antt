@@ -2,6 +2,7 @@
 use Prim.Native.Nat.{ℕ}
 use mathlib.Core.Path.{_≡_, refl, ap}
 use mathlib.Core.List.{List, [], reverse}
+use lib.ListN.{take}
 use Rattle.machine.specs.declared.Thread.{Thread}
 use Rattle.bench_file.specs.Layout.{Fields, accepted, judgeOf}
 use Rattle.object.specs.Each.{Each}
@@ -12,14 +13,14 @@ use Rattle.invariant.specs.View.{viewOf}
 use Rattle.invariant.proofs.Data.{data-fresh}
 use Rattle.invariant.proofs.Remote.{remote-fresh}
 use Rattle.invariant.proofs.Start.{control-fresh}
-use Rattle.claims.specs.Entries.{startOf}
+use Rattle.claims.specs.Entries.{startOf, stateAfter, entriesOf}
 use Rattle.claims.specs.Claims.{Demand3Of}
 use Rattle.claims.proofs.Calls.{calls-fresh}
 use Rattle.claims.proofs.CopiesSaid.{copies-fresh}
 use Rattle.claims.proofs.Cut.{stopped, cut-in-range}
 use Rattle.claims.proofs.Parts.{holds}
 use Rattle.claims.proofs.Layers.{Layers, asks, stays, layers-next}
-use Rattle.claims.proofs.Run.{run-keeps, run-steps}
+use Rattle.claims.proofs.Run.{Going, run-keeps, run-steps}
 use Rattle.claims.proofs.Start.{fresh-start, thread-start}
 use Rattle.claims.proofs.Swaps.{swaps-fresh}
 use Rattle.claims.proofs.Turns.{turns-fresh}
@@ -49,9 +50,14 @@ module _ (f : Fields) (fits : InRange f) where
         blanks = refl;
       }
 
+  -- and the machine after j entries has it
+  pub run-layers : (j : ℕ) → Going f (stateAfter (startOf f) (take j (f .schedule))) (reverse (take j (entriesOf f)))
+      × Layers f (stateAfter (startOf f) (take j (f .schedule))) (reverse (take j (entriesOf f)))
+  run-layers = run-keeps f fits (Layers f) layers-start (stays f fits) (layers-next f fits)
+
   pub demand-3 : Demand3Of f
   demand-3 j =
-      let kept = run-keeps f fits (Layers f) layers-start (stays f fits) (layers-next f fits) j in
+      let kept = run-layers j in
       record {
         holds = holds f _ _ (kept .0) (kept .1);
         steps = run-steps f fits (Layers f) layers-start (stays f fits) (layers-next f fits) j;
