@@ -3,6 +3,7 @@ pub mod Each
 pub mod Examples
 pub mod Judging
 pub mod Numbered
+pub mod Prefix
 pub mod Reading
 pub mod Request
 pub mod RoundTrip
