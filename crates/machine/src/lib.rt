@@ -1,7 +1,8 @@
 // Threads, nodes and Tail of CC-Synch, the table of its printed lines, and what one line does: Algorithm 1 of source 004.
 ghost use mathlib.Core.Path.{_≡_};
 ghost use mathlib.Core.Bool.{false, cond};
-ghost use Rattle.machine.specs.Lines.{lineOf, lineRun, silent, rowOf, pointed};
+ghost use mathlib.Core.List.{_∷_, map};
+ghost use Rattle.machine.specs.Lines.{Blank, printed, lineOf, lineRun, silent, rowOf, pointed};
 ghost use Rattle.machine.specs.Effect.{isNull, isEmptyReq, isEmptyRet, withReq, withRet, usesEmpty, takesOut, ran, effectOf};
 use object::Answer;
 use object::Request;
@@ -275,6 +276,19 @@ pub fn row_of(line: u8) -> Row
     }
     let place = (line - 1) as usize;
     LINES[place]
+}
+
+// The rows of all lines, a blank's first: row_of at hand for a run.
+pub fn all_rows() -> [Row; 22]
+    ensures { λ r. ⌜ r ≡ map rowOf (Blank ∷ printed) ⌝ }
+{
+    let mut rows = [silent(); 22];
+    let mut line = 0u8;
+    while line < 22 {
+        rows[line as usize] = row_of(line);
+        line += 1;
+    }
+    rows
 }
 
 // The node that a line points to.

@@ -1,5 +1,7 @@
 -- What `enter` puts together, one equation for each of its calls, is the outcome of the entry; and the order in which `step` judges. Assumes what the modules' parameters say.
 use Prim.Native.Nat.{ℕ, _+_, _-_, _*_, _<_, _≤_}
+use native.Mathlib.Nat.{mod-eq-of-lt}
+use native.Mathlib.Omega.{arith}
 use mathlib.Core.Path.{_≡_, refl, sym, ap, _∙_}
 use mathlib.Core.Bool.{Bool, true, false, cond, not, _&&_}
 use mathlib.Core.List.{List}
@@ -18,12 +20,23 @@ use Rattle.state.specs.declared.Counts.{Counts}
 use Rattle.state.specs.declared.State.{State}
 use Rattle.state.specs.Range.{inRange, countsInRange}
 use Rattle.state.specs.Shape.{Shaped}
+use Rattle.state.proofs.RangeFacts.{state-fits, counts-iff}
 use Rattle.step.specs.declared.Stepped.{Stepped}
-use Rattle.step.specs.Entry.{zeroNode, zeroSlot, appliedAt, moreOf, plus, named, line, row, target, node, request, applied, effect, countsAfter, entered}
+use Rattle.step.specs.Entry.{zeroNode, zeroSlot, appliedAt, moreOf, plus, wrapped, named, line, row, target, node, request, applied, effect, countsAfter, entered}
 use Rattle.step.specs.Step.{refused, outcomeOf, stepOf}
-use Rattle.step.proofs.Outcome.{goes-through-exactly}
+use Rattle.step.proofs.Outcome.{begun-few, goes-through-exactly}
 
--- what the calls of `enter` answered, in order
+-- counts that fit do not wrap
+pub fits-wrapped : (c : Counts) → countsInRange c ≡ true → wrapped c ≡ c
+fits-wrapped c e =
+    let f = counts-iff c .0 e in
+    rw (mod-eq-of-lt (f .records), mod-eq-of-lt (f .turns), mod-eq-of-lt (f .blanks), mod-eq-of-lt (f .spins), mod-eq-of-lt (f .remote)) refl
+
+-- the place of a call is one of the 256
+pub place-few : (s : State) (t : ThreadId) {p : ℕ} → Shaped s → inRange s ≡ true → t .0 < s .n → p ≡ 16 * t .0 + (named s t .begun - 1) → p < 256
+place-few s t shape fits below e = omega (arith, e, begun-few s t shape fits below, state-fits s fits .small)
+
+-- what the calls for an entry answered, in order
 pub record Called (s : State) (t : ThreadId) (k : ℕ) (r : Row) (m : NodeId) (p : ℕ) (ob : Applied) (e : Effect) (remote : ℕ) (copies : List ℕ) (more : Counts) : Type 0 where
   pub line-run : k ≡ line s t
   pub row-of : r ≡ rowOf (lineOf k)
@@ -80,7 +93,7 @@ module _ (s : State) (t : ThreadId) (shape : Shaped s) (fits : inRange s ≡ tru
     counts-refused h f = sym (by-outcome (through (rw is-answer at h) .0) (ap countsInRange (sym sums) ∙ f))
 
     -- the entry goes through
-    pub accepted : {counts : Counts} → e .refusal ≡ 0 → countsInRange (plus (s .counts) more) ≡ true → counts ≡ plus (s .counts) more
+    pub accepted : {counts : Counts} → e .refusal ≡ 0 → countsInRange (plus (s .counts) more) ≡ true → counts ≡ wrapped (plus (s .counts) more)
         → _≡_ {A = Stepped}
         (record {
           refusal = 0;
@@ -101,7 +114,7 @@ module _ (s : State) (t : ThreadId) (shape : Shaped s) (fits : inRange s ≡ tru
         (outcomeOf s t)
     accepted h f ep =
         let g = through (rw is-answer at h) in
-        rw (ep, sums, is-answer, g .1, called .copies-of, at-target, is-row, is-applied) (sym (by-outcome (g .0) (ap countsInRange (sym sums) ∙ f)))
+        rw (ep, fits-wrapped _ f, sums, is-answer, g .1, called .copies-of, at-target, is-row, is-applied) (sym (by-outcome (g .0) (ap countsInRange (sym sums) ∙ f)))
 
 -- the order of the step: the state, the entry, the outcome
 module _ (s : State) (t : ThreadId) where

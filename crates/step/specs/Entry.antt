@@ -1,5 +1,5 @@
 -- What one schedule entry does to a state: the thread that it names executes one line. Document 01, 'One entry, one line'.
-use Prim.Native.Nat.{ℕ, _+_, _-_, _*_}
+use Prim.Native.Nat.{ℕ, _+_, _-_, _*_, _%_, _^_}
 use mathlib.Core.Bool.{Bool, false, cond, _&&_}
 use mathlib.Core.List.{List}
 use lib.ListN.{getD, set}
@@ -78,6 +78,16 @@ plus c d = record {
   blanks = c .blanks + d .blanks;
   spins = c .spins + d .spins;
   remote = c .remote + d .remote;
+}
+
+-- counts on 32 bits each, as they are where they fit
+abbrev pub wrapped : Counts → Counts
+wrapped c = record {
+  records = c .records % 2 ^ 32;
+  turns = c .turns % 2 ^ 32;
+  blanks = c .blanks % 2 ^ 32;
+  spins = c .spins % 2 ^ 32;
+  remote = c .remote % 2 ^ 32;
 }
 
 module _ (s : State) (t : ThreadId) where

@@ -4,7 +4,7 @@ ghost use mathlib.Core.Path.{_≡_};
 ghost use mathlib.Core.Bool.{true};
 ghost use lib.Dec.{ltb};
 ghost use Rattle.state.specs.Range.{inRange, countsInRange};
-ghost use Rattle.step.specs.Entry.{servedBy, appliedAt, oneIf, moreOf, plus};
+ghost use Rattle.step.specs.Entry.{servedBy, appliedAt, oneIf, moreOf, plus, wrapped};
 ghost use Rattle.step.specs.Step.{refused, outcomeOf, stepOf};
 use machine::Announced;
 use machine::ThreadId;
@@ -58,12 +58,11 @@ fn applied_at(line: u8, kind: Kind, capacity: u8, object: Object, req: Announced
     }
 }
 
-// The place of the request of a thread's call, the last begun of its row.
-fn request_place(thread: usize, begun: u8) -> usize
-    requires { ⌜ (thread < 16) × (begun ≤ 16) ⌝ }
-    ensures { λ r. ⌜ (r ≡ 16 * thread + (begun - 1)) × (r < 256) ⌝ }
+// The place of the call that a thread has begun last, and of its request in the rows.
+pub fn call_place(thread: ThreadId, begun: u8) -> usize
+    ensures { λ r. ⌜ r ≡ 16 * thread .0 + (begun - 1) ⌝ }
 {
-    let first = 16 * thread;
+    let first = 16 * (thread.0 as usize);
     if begun == 0 {
         return first;
     }
@@ -107,16 +106,16 @@ fn counts_fit(counts: Counts, more: Counts) -> bool
     records & turns & blanks & spins & remote
 }
 
-fn plus(counts: Counts, more: Counts) -> Counts
-    requires { ⌜ countsInRange (plus counts more) ≡ true ⌝ }
-    ensures { λ r. ⌜ r ≡ plus counts more ⌝ }
+// The counts after an entry. They wrap where `counts_fit` says no.
+pub fn plus(counts: Counts, more: Counts) -> Counts
+    ensures { λ r. ⌜ r ≡ wrapped (plus counts more) ⌝ }
 {
     Counts {
-        records: counts.records + more.records,
-        turns: counts.turns + more.turns,
-        blanks: counts.blanks + more.blanks,
-        spins: counts.spins + more.spins,
-        remote: counts.remote + more.remote,
+        records: std::num::wrapping_add_u32(counts.records, more.records),
+        turns: std::num::wrapping_add_u32(counts.turns, more.turns),
+        blanks: std::num::wrapping_add_u32(counts.blanks, more.blanks),
+        spins: std::num::wrapping_add_u32(counts.spins, more.spins),
+        remote: std::num::wrapping_add_u32(counts.remote, more.remote),
     }
 }
 
@@ -139,7 +138,7 @@ fn enter(state: State, thread: ThreadId) -> Stepped
     let m = target.0 as usize;
     let node = state.nodes[m];
     let req = node.req;
-    let place = request_place(t, named.begun);
+    let place = call_place(thread, named.begun);
     let slot = state.requests[place];
     let request = slot.request;
     let applied = applied_at(line, kind, state.capacity, object, req);

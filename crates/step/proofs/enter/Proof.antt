@@ -7,8 +7,8 @@ use borrow.Author.Tests.{not-true, not-false}
 use borrow.Author.Needs.{needs}
 use Rattle.state.specs.Shape.{Shaped}
 use Rattle.state.proofs.RangeFacts.{state-fits}
-use Rattle.step.proofs.Outcome.{target-in-range, begun-few}
-use Rattle.step.proofs.Entering.{Called, is-target, line-refused, counts-refused, accepted}
+use Rattle.step.proofs.Outcome.{target-in-range}
+use Rattle.step.proofs.Entering.{place-few, Called, is-target, line-refused, counts-refused, accepted}
 use Rattle.step.proofs.enter.Statement.{statement}
 use Rattle.step.proofs.enter.Tie as tie
 
@@ -29,6 +29,11 @@ node-below c =
     let e = is-target s t (c .before .before .line-run .ensures) (c .before .row-of .ensures) (c .pointed .ensures) in
     let few = state-fits s (at .pre .0) .small in
     rw e (omega (arith, target-in-range s t (shaped at) (at .pre .0) (at .pre .1)))
+
+place-below : (c : tie.After-call-place) → c .call-place .result < 256
+place-below c =
+    let at = c .before .before .before .before .before .before .before .before .before .before .before in
+    place-few (at .args .t1) (at .args .thread) (shaped at) (at .pre .0) (at .pre .1) (c .call-place .ensures)
 
 cast-t : tie.Need-cast-t
 cast-t c = search needs
@@ -57,14 +62,14 @@ mul-node c = search needs
 element-copy-out-node : tie.Need-element-copy-out-node
 element-copy-out-node c = node-below (c .before)
 
-request-place-requires : tie.Need-request-place-requires
-request-place-requires c κs = let at = c .before .before .before .before .before .before .before .before .before .before in (below-16 at, begun-few (at .args .t1) (at .args .thread) (shaped at) (at .pre .0) (at .pre .1))
+call-place-requires : tie.Need-call-place-requires
+call-place-requires c κs = search needs
 
 mul-slot : tie.Need-mul-slot
-mul-slot c = search needs
+mul-slot c = omega (arith, place-below c)
 
 element-copy-out-slot : tie.Need-element-copy-out-slot
-element-copy-out-slot c = search needs
+element-copy-out-slot c = place-below c
 
 applied-at-requires : tie.Need-applied-at-requires
 applied-at-requires c κs = search needs
@@ -79,8 +84,8 @@ more-of-requires : tie.Need-more-of-requires
 more-of-requires c κs = search needs
 
 -- what the calls answered
-called : (c : tie.After-more-of) → Called (c .before .before .before .before .before .before .before .before .before .before .before .before .before .before .before .before .before .args .t1) (c .before .before .before .before .before .before .before .before .before .before .before .before .before .before .before .before .before .args .thread) (c .before .before .before .before .before .before .before .before .before .before .before .line-run .result) (c .before .before .before .before .before .before .before .before .before .before .row-of .result) (c .before .before .before .before .before .before .before .before .before .pointed .result) (c .before .before .before .before .before .before .request-place .result) (c .before .before .before .before .applied-at .result) (c .before .before .before .run-line .result) (c .before .refer-all .result) (c .before .refer-all .last .0) (c .more-of .result)
-called c = record { line-run = c .before .before .before .before .before .before .before .before .before .before .before .line-run .ensures; row-of = c .before .before .before .before .before .before .before .before .before .before .row-of .ensures; pointed-to = c .before .before .before .before .before .before .before .before .before .pointed .ensures; place = c .before .before .before .before .before .before .request-place .ensures .0; applied-at = c .before .before .before .before .applied-at .ensures; effect-of = c .before .before .before .run-line .ensures; remote-of = c .before .refer-all .ensures .0; copies-of = c .before .refer-all .ensures .1; more-of = c .more-of .ensures }
+called : (c : tie.After-more-of) → Called (c .before .before .before .before .before .before .before .before .before .before .before .before .before .before .before .before .before .args .t1) (c .before .before .before .before .before .before .before .before .before .before .before .before .before .before .before .before .before .args .thread) (c .before .before .before .before .before .before .before .before .before .before .before .line-run .result) (c .before .before .before .before .before .before .before .before .before .before .row-of .result) (c .before .before .before .before .before .before .before .before .before .pointed .result) (c .before .before .before .before .before .before .call-place .result) (c .before .before .before .before .applied-at .result) (c .before .before .before .run-line .result) (c .before .refer-all .result) (c .before .refer-all .last .0) (c .more-of .result)
+called c = record { line-run = c .before .before .before .before .before .before .before .before .before .before .before .line-run .ensures; row-of = c .before .before .before .before .before .before .before .before .before .before .row-of .ensures; pointed-to = c .before .before .before .before .before .before .before .before .before .pointed .ensures; place = c .before .before .before .before .before .before .call-place .ensures; applied-at = c .before .before .before .before .applied-at .ensures; effect-of = c .before .before .before .run-line .ensures; remote-of = c .before .refer-all .ensures .0; copies-of = c .before .refer-all .ensures .1; more-of = c .more-of .ensures }
 
 refused-requires : tie.Need-refused-requires
 refused-requires c κs = search needs
@@ -98,7 +103,7 @@ returns-2 : tie.Need-returns-2
 returns-2 c = let at = c .before .before .before .before .before .before .before .before .before .before .before .before .before .before .before .before .before .before .before .before .before .before in c .refused2 .ensures ∙ counts-refused (at .args .t1) (at .args .thread) (shaped at) (at .pre .0) (at .pre .1) (called (c .before .before .before .before .before)) (c .before .before .before .if1 .left) (sym (c .before .before .counts-fit .ensures) ∙ not-true _ (c .before .if2 .taken))
 
 plus-requires : tie.Need-plus-requires
-plus-requires c κs = sym (c .before .before .before .before .before .counts-fit .ensures) ∙ not-false _ (c .before .before .before .before .if2 .left)
+plus-requires c κs = search needs
 
 mul-thread-after : tie.Need-mul-thread-after
 mul-thread-after c = omega (arith, below-16 (c .before .before .before .before .before .before .before .before .before .before .before .before .before .before .before .before .before .before .before .before .before .before .before .before .before .before))
@@ -128,7 +133,7 @@ enter-spec =
     cast-m
     mul-node
     element-copy-out-node
-    request-place-requires
+    call-place-requires
     mul-slot
     element-copy-out-slot
     applied-at-requires

@@ -1,31 +1,33 @@
--- `step::plus` meets its contract: no sum passes 32 bits. Assumes nothing.
-use native.Mathlib.Omega.{arith}
+-- `step::plus` meets its contract. Assumes nothing.
 use borrow.Author.Needs.{needs}
-use Rattle.state.proofs.RangeFacts.{CountsFit, counts-iff}
-use Rattle.step.specs.Entry.{plus}
 use Rattle.step.proofs.plus.Statement.{statement}
 use Rattle.step.proofs.plus.Tie as tie
 
-told : (c : tie.Start) → CountsFit (plus (c .args .counts) (c .args .more))
-told c = counts-iff (plus (c .args .counts) (c .args .more)) .0 (c .pre)
+wrapping-add-u32-requires : tie.Need-wrapping-add-u32-requires
+wrapping-add-u32-requires c κs = search needs
 
-add-t3 : tie.Need-add-t3
-add-t3 c = omega (arith, told (c .before .before) .records)
+wrapping-add-u32-requires-2 : tie.Need-wrapping-add-u32-requires-2
+wrapping-add-u32-requires-2 c κs = search needs
 
-add-t4 : tie.Need-add-t4
-add-t4 c = omega (arith, told (c .before .before .before .before) .turns)
+wrapping-add-u32-requires-3 : tie.Need-wrapping-add-u32-requires-3
+wrapping-add-u32-requires-3 c κs = search needs
 
-add-t5 : tie.Need-add-t5
-add-t5 c = omega (arith, told (c .before .before .before .before .before .before) .blanks)
+wrapping-add-u32-requires-4 : tie.Need-wrapping-add-u32-requires-4
+wrapping-add-u32-requires-4 c κs = search needs
 
-add-t6 : tie.Need-add-t6
-add-t6 c = omega (arith, told (c .before .before .before .before .before .before .before .before) .spins)
-
-add-t7 : tie.Need-add-t7
-add-t7 c = omega (arith, told (c .before .before .before .before .before .before .before .before .before .before) .remote)
+wrapping-add-u32-requires-5 : tie.Need-wrapping-add-u32-requires-5
+wrapping-add-u32-requires-5 c κs = search needs
 
 returns : tie.Need-returns
-returns c = search needs
+returns c = simp (c .wrapping-add-u325 .ensures, c .before .wrapping-add-u324 .ensures, c .before .before .wrapping-add-u323 .ensures, c .before .before .before .wrapping-add-u322 .ensures, c .before .before .before .before .wrapping-add-u32 .ensures)
 
 pub plus-spec : {M : Type 1} → statement M
-plus-spec = tie.close (tie.spec add-t3 add-t4 add-t5 add-t6 add-t7 returns)
+plus-spec =
+    tie.close
+    (tie.spec
+    wrapping-add-u32-requires
+    wrapping-add-u32-requires-2
+    wrapping-add-u32-requires-3
+    wrapping-add-u32-requires-4
+    wrapping-add-u32-requires-5
+    returns)
