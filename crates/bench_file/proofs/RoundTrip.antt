@@ -84,7 +84,7 @@ head-codec =
     (λ head. (λ g. g .1 .1 .1, λ h. (tt, (omega (arith, kind-range (head .object)), (sym (number-of-kind (head .object)), h)))))
 
 -- a request
-request-range : (object : Kind) (r : Request) → ((Byte (requestCode r) × ((leastCode object ≤ requestCode r) × (requestCode r ≤ mostCode object))) × (requestValue r < 256 ^ 4)) ↔ RequestInRange object r
+pub request-range : (object : Kind) (r : Request) → ((Byte (requestCode r) × ((leastCode object ≤ requestCode r) × (requestCode r ≤ mostCode object))) × (requestValue r < 256 ^ 4)) ↔ RequestInRange object r
 request-range Queue (Put v) = (λ g. g .1, λ h. omega arith)
 request-range Queue Take = (λ g. tt, λ h. omega arith)
 request-range Queue (Add v) = (λ g. omega arith, λ h. absurd h)

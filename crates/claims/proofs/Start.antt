@@ -47,14 +47,14 @@ module _ {A : Type 0} (a : A) where
   filled-at m (x ∷ l) zero = refl
   filled-at m (x ∷ l) (suc i) = filled-at m l i
 
-abbrev slotOf : Request → Slot
+abbrev pub slotOf : Request → Slot
 slotOf request = record { request = request }
 
 -- the rows one after the other, 16 places each
 length-row : (row : List Request) → length row ≤ 16 → length (slotsOf row) ≡ 16
 length-row row h = length-filled zeroSlot 16 (map slotOf row) (rw length-map h)
 
-length-rows : (kind : Kind) (rows : List (List Request)) → Each (RowInRange kind) rows → length (rowsOf rows) ≡ 16 * length rows
+pub length-rows : (kind : Kind) (rows : List (List Request)) → Each (RowInRange kind) rows → length (rowsOf rows) ≡ 16 * length rows
 length-rows kind [] e = refl
 length-rows kind (row ∷ rows) e = rw (length-append, length-row row (e .0 .count), length-rows kind rows (e .1)) (omega arith)
 
