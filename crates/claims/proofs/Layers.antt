@@ -119,7 +119,7 @@ module _ (f : Fields) (fits : InRange f) (s : State) (past : List Entry) (t : Th
   does : Does (s .n) (s .h) (viewOf s) (viewOf after) (t .0) l (request s t) (applied s t .answer)
   does = does-of s t (going .sound) below
 
-  happens : Happens (s .n) (s .h) (viewOf s) (viewOf after) (now .ledger) (t .0) l (request s t) (applied s t .answer) past e (references s t .remote)
+  pub happens : Happens (s .n) (s .h) (viewOf s) (viewOf after) (now .ledger) (t .0) l (request s t) (applied s t .answer) past e (references s t .remote)
   happens = record { control = now .control; does = does; tells = tells-of s t (going .sound) below }
 
   few : s .n ≤ 16

@@ -33,7 +33,7 @@ use Rattle.claims.proofs.Swaps.{length-more}
 use Rattle.claims.proofs.Turns.{one-combiner}
 
 -- an entry of a line gives one to a list in order of time, and no other does
-one-each : {A : Type 0} (k : ℕ) (gives : Entry → List Entry → A) (run : List Entry)
+pub one-each : {A : Type 0} (k : ℕ) (gives : Entry → List Entry → A) (run : List Entry)
     → length (inOrder (λ e past. cond (runs k e) (gives e past ∷ []) []) run) ≡ howMany k run
 one-each k gives [] = refl
 one-each k gives (e ∷ past) = omega (arith, length-more (runs k e) (inOrder (λ e past. cond (runs k e) (gives e past ∷ []) []) past) (gives e past), one-each k gives past)

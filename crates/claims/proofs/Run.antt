@@ -41,6 +41,14 @@ request-going f s past t fits going below =
     rw (going .requests)
     (requests-start f fits (t .0) (named s t .begun - 1) (omega (arith, begun-few s t (going .sound .shape) (going .sound .range) below)))
 
+-- one more entry
+pub going-next : (f : Fields) (s : State) (past : List Entry) (t : ThreadId) → t .0 < s .n → length past < 32768
+    → takesOut (named s t) (node s t) (s .h) (line s t) ≡ false → Going f s past → Going f (entered s t) (entryOf s t ∷ past)
+going-next f s past t below short stay going =
+    let sound = one-sound s t (going .sound) below stay (next-fits s past t (going .counted) short) in
+    let counted = counted-next s past t (going .counted) in
+    search (arith, going)
+
 module _ (f : Fields) (fits : InRange f) (P : State → List Entry → Type 0) (start : P (startOf f) [])
     (stays : (s : State) (past : List Entry) (t : ThreadId) → t .0 < s .n → Going f s past → P s past → takesOut (named s t) (node s t) (s .h) (line s t) ≡ false)
     (keeps : (s : State) (past : List Entry) (t : ThreadId) → t .0 < s .n → Going f s past → P s past → P (entered s t) (entryOf s t ∷ past)) where
@@ -67,10 +75,7 @@ module _ (f : Fields) (fits : InRange f) (P : State → List Entry → Type 0) (
     goes = one-step s t (now .0 .sound) below-n stay fit
 
     goes-on : Both (entered s t) (entryOf s t ∷ past)
-    goes-on =
-        let sound = one-sound s t (now .0 .sound) below-n stay fit in
-        let counted = counted-next s past t (now .0 .counted) in
-        (search (arith, now .0), keeps s past t below-n (now .0) (now .1))
+    goes-on = (going-next f s past t below-n short stay (now .0), keeps s past t below-n (now .0) (now .1))
 
   -- after j entries
   module _ (j : ℕ) where

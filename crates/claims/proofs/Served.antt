@@ -70,7 +70,7 @@ module _ {n : ℕ} {v : View} {g : Ledger} {past : List Entry} (w : Swaps n v g 
       rw (← call-served i x d k) (shown-first (servings past) i x (omega (arith, applied)) (λ j m.
       not-same _ _ (λ e. w .once j i d m (omega arith) (sym (call-served j x d (omega arith)) ∙ sym e ∙ call-served i x d k))))
 
-  shown-none : (i : ℕ) (d : Call) → g .a ≤ i → i < g .s → shownOf (getD (swapOrder past) i d) (servings past) ≡ unshown
+  pub shown-none : (i : ℕ) (d : Call) → g .a ≤ i → i < g .s → shownOf (getD (swapOrder past) i d) (servings past) ≡ unshown
   shown-none i d low high =
       shown-not (servings past) _ d (λ j m.
       let k : j < g .a = omega (arith, applied) in

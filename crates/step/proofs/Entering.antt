@@ -7,6 +7,7 @@ use mathlib.Core.Bool.{Bool, true, false, cond, not, _&&_}
 use mathlib.Core.List.{List}
 use lib.ListN.{getD, set}
 use borrow.Author.Tests.{le-leb, lt-leb}
+use Rattle.object.specs.declared.Object.{Object}
 use Rattle.object.specs.declared.Applied.{Applied}
 use Rattle.machine.specs.declared.ThreadId.{ThreadId}
 use Rattle.machine.specs.declared.NodeId.{NodeId}
@@ -48,6 +49,22 @@ pub record Called (s : State) (t : ThreadId) (k : ℕ) (r : Row) (m : NodeId) (p
   pub copies-of : copies ≡ referred (s .n) (t .0) (s .copies) (accessesOf r m) .copies
   pub more-of : more ≡ moreOf k (getD (s .nodes) (m .0) zeroNode .wait) remote
 
+-- the state that is made of the answers
+abbrev pub made : State → ThreadId → NodeId → Object → Effect → List ℕ → Counts → State
+made s t m object e copies counts = record {
+  n = s .n;
+  h = s .h;
+  kind = s .kind;
+  capacity = s .capacity;
+  tail = e .tail;
+  threads = set (s .threads) (t .0) (e .thread);
+  nodes = set (s .nodes) (m .0) (e .node);
+  requests = s .requests;
+  copies = copies;
+  object = object;
+  counts = counts;
+}
+
 -- the node that is pointed to
 pub is-target : (s : State) (t : ThreadId) {k : ℕ} {r : Row} {m : NodeId} → k ≡ line s t → r ≡ rowOf (lineOf k) → m ≡ pointed (r .node) (named s t)
     → m ≡ target s t
@@ -68,19 +85,19 @@ module _ (s : State) (t : ThreadId) (shape : Shaped s) (fits : inRange s ≡ tru
 
   module _ {k : ℕ} {r : Row} {m : NodeId} {p : ℕ} {ob : Applied} {e : Effect} {remote : ℕ} {copies : List ℕ} {more : Counts}
       (called : Called s t k r m p ob e remote copies more) where
-    is-row : r ≡ row s t
+    pub is-row : r ≡ row s t
     is-row = rw (called .line-run) at (called .row-of)
 
-    at-target : m ≡ target s t
+    pub at-target : m ≡ target s t
     at-target = is-target s t (called .line-run) (called .row-of) (called .pointed-to)
 
-    is-applied : ob ≡ applied s t
+    pub is-applied : ob ≡ applied s t
     is-applied = rw (called .line-run, at-target) at (called .applied-at)
 
     is-answer : e ≡ answer
     is-answer = rw (at-target, called .place, is-applied) at (called .effect-of)
 
-    sums : plus (s .counts) more ≡ countsAfter s t
+    pub sums : plus (s .counts) more ≡ countsAfter s t
     sums = rw (called .more-of, called .remote-of, called .line-run, is-row, at-target) refl
 
     -- the line is refused
@@ -92,29 +109,19 @@ module _ (s : State) (t : ThreadId) (shape : Shaped s) (fits : inRange s ≡ tru
     pub counts-refused : e .refusal ≡ 0 → countsInRange (plus (s .counts) more) ≡ false → refused 14 s ≡ outcomeOf s t
     counts-refused h f = sym (by-outcome (through (rw is-answer at h) .0) (ap countsInRange (sym sums) ∙ f))
 
+    -- where no number is taken out, what the calls answered makes the state after the entry
+    pub line-done : takesOut (named s t) (node s t) (s .h) (line s t) ≡ false → e ≡ effect s t
+    line-done stay = is-answer ∙ rw stay
+
+    pub entered-by : {counts : Counts} → e ≡ effect s t → counts ≡ plus (s .counts) more → made s t m (ob .object) e copies counts ≡ entered s t
+    entered-by done ep = rw (ep, sums, done, called .copies-of, at-target, is-row, is-applied) refl
+
     -- the entry goes through
     pub accepted : {counts : Counts} → e .refusal ≡ 0 → countsInRange (plus (s .counts) more) ≡ true → counts ≡ wrapped (plus (s .counts) more)
-        → _≡_ {A = Stepped}
-        (record {
-          refusal = 0;
-          state = record {
-            n = s .n;
-            h = s .h;
-            kind = s .kind;
-            capacity = s .capacity;
-            tail = e .tail;
-            threads = set (s .threads) (t .0) (e .thread);
-            nodes = set (s .nodes) (m .0) (e .node);
-            requests = s .requests;
-            copies = copies;
-            object = ob .object;
-            counts = counts;
-          };
-        })
-        (outcomeOf s t)
+        → _≡_ {A = Stepped} (record { refusal = 0; state = made s t m (ob .object) e copies counts }) (outcomeOf s t)
     accepted h f ep =
         let g = through (rw is-answer at h) in
-        rw (ep, fits-wrapped _ f, sums, is-answer, g .1, called .copies-of, at-target, is-row, is-applied) (sym (by-outcome (g .0) (ap countsInRange (sym sums) ∙ f)))
+        rw (entered-by (is-answer ∙ g .1) (ep ∙ fits-wrapped _ f)) (sym (by-outcome (g .0) (ap countsInRange (sym sums) ∙ f)))
 
 -- the order of the step: the state, the entry, the outcome
 module _ (s : State) (t : ThreadId) where

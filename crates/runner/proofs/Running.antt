@@ -1,0 +1,288 @@
+-- What the loop of a run keeps: the invariant of the file's run, what the arrays say of the entries so far, and that the rest of the schedule ends the run.
+-- Assumes fields in range.
+use Prim.Native.Nat.{ℕ, suc, _+_, _-_, _*_, _%_, _≤_, _<_}
+use native.Mathlib.Numerals.{add-one}
+use native.Mathlib.Omega.{arith}
+use mathlib.Core.Path.{_≡_, refl, sym, ap, subst, _∙_}
+use mathlib.Core.Bool.{true, false, cond}
+use mathlib.Core.List.{List, [], _∷_, map, reverse, reverseAux}
+use lib.ListN.{length, getD, set, drop, replicate, drop-of-length-le}
+use lib.Seq.{drop-cons, take-length}
+use lib.Dec.{eqb}
+use borrow.Author.Tests.{eq-eqb, ne-eqb}
+use Rattle.object.specs.Each.{Each}
+use Rattle.bench_file.specs.Layout.{Fields}
+use Rattle.bench_file.specs.Bytes.{InRange}
+use Rattle.object.specs.declared.Kind.{Kind}
+use Rattle.object.specs.declared.Answer.{Answer}
+use Rattle.object.specs.declared.Answer.the-variants.{Empty}
+use Rattle.object.specs.declared.Object.{Object}
+use Rattle.machine.specs.declared.Announced.{Announced}
+use Rattle.object.specs.declared.Applied.{Applied}
+use Rattle.machine.specs.declared.NodeId.{NodeId}
+use Rattle.machine.specs.declared.Effect.{Effect}
+use Rattle.machine.specs.Effect.{takesOut}
+use Rattle.machine.specs.declared.ThreadId.{ThreadId}
+use Rattle.machine.specs.declared.Row.{Row}
+use Rattle.machine.specs.Lines.{Blank, printed, lineOf, rowOf}
+use Rattle.state.specs.declared.Counts.{Counts}
+use Rattle.state.specs.declared.State.{State}
+use Rattle.state.specs.Range.{inRange, countsInRange}
+use Rattle.state.specs.Shape.{Shaped}
+use Rattle.state.proofs.RangeFacts.{state-fits}
+use Rattle.step.specs.Entry.{servedBy, appliedAt, plus, wrapped, named, line, target, node, effect, applied, references, entered}
+use Rattle.step.proofs.Numbers.{number-most}
+use Rattle.step.proofs.Outcome.{target-in-range}
+use Rattle.step.proofs.Entering.{place-few, Called, made, is-row, at-target, is-applied, sums, line-done, entered-by, fits-wrapped}
+use Rattle.invariant.proofs.Bridge.{number-line}
+use Rattle.claims.specs.Entries.{Entry, entryOf, startOf, entriesFrom, stateAfter, entriesOf, howMany}
+use Rattle.claims.proofs.Counted.{next-fits}
+use Rattle.claims.proofs.Layers.{Layers, stays, layers-next}
+use Rattle.claims.proofs.Room.{swaps-few, requests-few}
+use Rattle.claims.proofs.Run.{Going, going-next}
+use Rattle.claims.proofs.Theorem.{run-layers}
+use Rattle.runner.specs.declared.Kept.{Kept}
+use Rattle.runner.specs.declared.Played.{Played}
+use Rattle.runner.specs.Kept.{callAt, keptOf, unkept, afterEntry, afterServing}
+use Rattle.runner.specs.Played.{fieldsIn, Startable, playedOf}
+use Rattle.runner.proofs.Tabled.{is-tabled}
+use Rattle.runner.proofs.Tables.{Tables, tables-start, place, served, enteredCalls, servedCalls, orderAfter, givenAfter, turnsAfter, place-below, served-below, tables-next}
+
+pub record Running (f : Fields) (bytes : List ℕ) (i : ℕ) (s : State) (kept : List Kept) (order given turns : List ℕ) : Type 0 where
+  pub past : List Entry
+  pub going : Going f s past
+  pub layers : Layers f s past
+  pub tables : Tables past kept order given turns
+  -- what is left of the schedule: threads below n, and the entries that end the run
+  pub left : Each (λ t. t < f .head .n) (drop i bytes)
+  pub short : length past + length (drop i bytes) ≤ 32768
+  pub ends : reverseAux (entriesFrom s (drop i bytes)) past ≡ reverse (entriesOf f)
+
+-- the entries to come only add Swaps
+more-swaps : (rest past : List Entry) → howMany 5 past ≤ howMany 5 (reverseAux rest past)
+more-swaps [] past = omega arith
+more-swaps (e ∷ rest) past = omega (arith, more-swaps rest (e ∷ past))
+
+module _ (f : Fields) (bytes : List ℕ) (fits : InRange f) where
+  pub running-start : (from : ℕ) → drop from bytes ≡ f .schedule → Running f bytes from (startOf f) (replicate 256 unkept) (replicate 256 0) (replicate 17 4335) (replicate 16 65535)
+  unfolding stateAfter
+  running-start from e =
+      let fresh = run-layers f fits 0 in
+      record {
+        past = [];
+        going = fresh .0;
+        layers = fresh .1;
+        tables = tables-start;
+        left = rw e (fits .schedule);
+        short = rw e (omega (arith, fits .entries));
+        ends = rw e;
+      }
+
+  -- with nothing left the entries so far are the run
+  pub ends-none : {i : ℕ} {s : State} {kept : List Kept} {order given turns : List ℕ} (x : Running f bytes i s kept order given turns) → length bytes ≤ i
+      → x .past ≡ reverse (entriesOf f)
+  unfolding entriesFrom
+  ends-none {s = s} x done = ap (λ (l : List ℕ). reverseAux (entriesFrom s l) (x .past)) (sym (drop-of-length-le bytes done)) ∙ x .ends
+
+  module _ {i : ℕ} {s : State} {kept : List Kept} {order given turns : List ℕ} (x : Running f bytes i s kept order given turns) (inside : i < length bytes) where
+    abbrev t : ThreadId
+    t = record { 0 = getD bytes i 0 }
+
+    here : drop i bytes ≡ t .0 ∷ drop (i + 1) bytes
+    here = rw add-one (drop-cons bytes i 0 inside)
+
+    each : Each (λ t. t < f .head .n) (t .0 ∷ drop (i + 1) bytes)
+    each = rw here at (x .left)
+
+    pub below : t .0 < s .n
+    below = omega (arith, each .0, x .going .n)
+
+    pub few : length (x .past) < 32768
+    few = omega (arith, ap length here, x .short)
+
+    -- the numbers that the entry reads are within the arrays
+    pub thread-few : t .0 < 16
+    thread-few = omega (arith, below, state-fits s (x .going .sound .range) .small)
+
+    pub line-few : {k : ℕ} → k ≡ line s t → k < 22
+    line-few e = omega (arith, e, number-line s t (x .going .sound) below, number-most (lineOf (line s t)))
+
+    pub node-few : {m : NodeId} → m ≡ target s t → m .0 < 17
+    node-few e =
+        rw e (omega (arith, target-in-range s t (x .going .sound .shape) (x .going .sound .range) below, state-fits s (x .going .sound .range) .small))
+
+    pub slot-few : {p : ℕ} → p ≡ 16 * t .0 + (named s t .begun - 1) → p < 256
+    slot-few = place-few s t (x .going .sound .shape) (x .going .sound .range) below
+
+    ends-next : reverseAux (entriesFrom (entered s t) (drop (i + 1) bytes)) (entryOf s t ∷ x .past) ≡ reverse (entriesOf f)
+    unfolding entriesFrom
+    ends-next = ap (λ (l : List ℕ). reverseAux (entriesFrom s l) (x .past)) (sym here) ∙ x .ends
+
+    -- there is room in Swap order for one more
+    pub room : line s t ≡ 5 → s .counts .records < 256
+    room swap =
+        let counted : s .counts .records ≡ howMany 5 (x .past) = ap (λ (c : Counts). c .records) (x .going .counted .counts) in
+        let one : howMany 5 (entryOf s t ∷ x .past) ≡ 1 + howMany 5 (x .past) = rw (eq-eqb (line s t) 5 swap) in
+        let all = rw (take-length (entriesOf f)) at (swaps-few f fits (length (entriesOf f))) in
+        omega (arith, rw ends-next at (more-swaps (entriesFrom (entered s t) (drop (i + 1) bytes)) (entryOf s t ∷ x .past)), all, requests-few f fits)
+
+    -- what the loop's own calls answered for the entry, and what the notes left in the arrays
+    pub record Booked (d : Kept) (k : ℕ) (m : NodeId) (answer : Answer) (e : Effect) (remote call served : ℕ) (order′ given′ turns′ : List ℕ) (mine theirs : Kept) : Type 0 where
+      pub of-call : call ≡ 16 * t .0 + (e .thread .begun - 1)
+      pub of-served : served ≡ cond (eqb k 16) (getD given (m .0) 0) call
+      pub of-turns : turns′ ≡ set turns (t .0) (cond (eqb k 12) (s .counts .turns % 65536) (getD turns (t .0) 0))
+      pub of-given : given′ ≡ cond (eqb k 5) (set given (s .tail .0) (call % 65536)) given
+      pub of-order : order′ ≡ cond (eqb k 5) (set order (s .counts .records) (call % 65536)) order
+      pub of-mine : mine ≡ afterEntry (getD kept call d) k remote
+      pub of-theirs : theirs ≡ afterServing (getD (set kept call mine) served d) (eqb k 16) answer (t .0) (getD turns (t .0) 0)
+
+    stay : takesOut (named s t) (node s t) (s .h) (line s t) ≡ false
+    stay = stays f fits s (x .past) t below (x .going) (x .layers)
+
+    pub call-below : place s t < 256
+    call-below = place-below f fits s (x .past) t below (x .going) (x .layers) few
+
+    pub their-below : served s t given < 256
+    their-below = served-below f fits s (x .past) t below (x .going) (x .layers) few (x .tables)
+
+    running-next : (d : Kept)
+        → Running f bytes (i + 1) (entered s t) (servedCalls s t d given turns (enteredCalls s t d kept)) (orderAfter s t order) (givenAfter s t given) (turnsAfter s t turns)
+    running-next d = record {
+      past = entryOf s t ∷ x .past;
+      going = going-next f s (x .past) t below few stay (x .going);
+      layers = layers-next f fits s (x .past) t below (x .going) (x .layers);
+      tables = tables-next f fits s (x .past) t below (x .going) (x .layers) few (x .tables) d room;
+      left = each .1;
+      short = omega (arith, ap length here, x .short);
+      ends = ends-next;
+    }
+
+    module _ {k p remote : ℕ} {r : Row} {m : NodeId} {ob : Applied} {e : Effect} {copies : List ℕ} {more : Counts} (called : Called s t k r m p ob e remote copies more) where
+      shape : Shaped s
+      shape = x .going .sound .shape
+
+      range : inRange s ≡ true
+      range = x .going .sound .range
+
+      is-node : m ≡ target s t
+      is-node = at-target s t shape range below called
+
+      is-effect : e ≡ effect s t
+      is-effect = line-done s t shape range below called stay
+
+      is-remote : remote ≡ references s t .remote
+      is-remote = rw (is-row s t shape range below called, is-node) at (called .remote-of)
+
+      fits-counts : countsInRange (plus (s .counts) more) ≡ true
+      fits-counts = ap countsInRange (sums s t shape range below called) ∙ next-fits s (x .past) t (x .going .counted) few
+
+      module _ {call : ℕ} (at : call ≡ 16 * t .0 + (e .thread .begun - 1)) where
+        pub is-call : call ≡ place s t
+        is-call = at ∙ ap (λ (e : Effect). 16 * t .0 + (e .thread .begun - 1)) is-effect
+
+        pub is-served : {their : ℕ} → their ≡ cond (eqb k 16) (getD given (m .0) 0) call → their ≡ served s t given
+        is-served z = rw (called .line-run, is-node, is-call) at z
+
+      pub turn : {call their : ℕ} {order′ given′ turns′ : List ℕ} {counts : Counts} {d mine theirs : Kept} → counts ≡ wrapped (plus (s .counts) more)
+          → Booked d k m (ob .answer) e remote call their order′ given′ turns′ mine theirs
+          → Running f bytes (i + 1) (made s t m (ob .object) e copies counts) (set (set kept call mine) their theirs) order′ given′ turns′
+      turn {d = d} {mine = mine} {theirs = theirs} sum b =
+          let after = entered-by s t shape range below called is-effect (sum ∙ fits-wrapped _ fits-counts) in
+          let at = is-call (b .of-call) in
+          let to = is-served (b .of-call) (b .of-served) in
+          let own : mine ≡ afterEntry (getD kept (place s t) d) (line s t) (references s t .remote) = rw (called .line-run, is-remote, at) at (b .of-mine) in
+          let other : theirs ≡ afterServing (getD (enteredCalls s t d kept) (served s t given) d) (eqb (line s t) 16) (applied s t .answer) (t .0) (getD turns (t .0) 0) =
+          rw (called .line-run, is-applied s t shape range below called, own, at, to) at (b .of-theirs) in
+          rw (
+            after,
+            other,
+            own,
+            to,
+            rw (called .line-run, at) at (b .of-order),
+            rw (called .line-run, at) at (b .of-given),
+            rw (called .line-run) at (b .of-turns),
+            at,
+          ) (running-next d)
+
+-- a state with another object: line 16 alone puts it in its place
+abbrev pub withObject : State → Object → State
+withObject s ob = record {
+  n = s .n;
+  h = s .h;
+  kind = s .kind;
+  capacity = s .capacity;
+  tail = s .tail;
+  threads = s .threads;
+  nodes = s .nodes;
+  requests = s .requests;
+  copies = s .copies;
+  object = ob;
+  counts = s .counts;
+}
+
+pub record Serves (s J : State) (answer : Answer) (ob : Applied) : Type 0 where
+  pub answers : answer ≡ ob .answer
+  pub state : J ≡ withObject s (ob .object)
+
+module _ (s J : State) (answer : Answer) (k : ℕ) (req : Announced) where
+  pub at-16 : {ob : Applied} → k ≡ 16 → ob ≡ servedBy (s .kind) (s .capacity) (s .object) req → answer ≡ ob .answer → J ≡ withObject s (ob .object)
+      → Serves s J answer (appliedAt k (s .kind) (s .capacity) (s .object) req)
+  at-16 q e a j = rw (eq-eqb k 16 q, ← e) (record { answers = a; state = j })
+
+  pub not-at-16 : (k ≡ 16 → ⊥) → answer ≡ Empty → J ≡ s → Serves s J answer (appliedAt k (s .kind) (s .capacity) (s .object) req)
+  not-at-16 q a j = rw (ne-eqb k 16 q) (record { answers = a; state = j })
+
+-- what the loop holds: what it read once, and the run
+pub record Looping (bytes : List ℕ) (rows : List Row) (n h : ℕ) (kind : Kind) (capacity i : ℕ) (s : State) (kept : List Kept) (order given turns : List ℕ) : Type 0 where
+  pub fits : InRange (fieldsIn bytes)
+  pub table : rows ≡ map rowOf (Blank ∷ printed)
+  pub threads : n ≡ s .n
+  pub limit : h ≡ s .h
+  pub object : kind ≡ s .kind
+  pub room : capacity ≡ s .capacity
+  pub inside : i ≤ length bytes
+  pub running : Running (fieldsIn bytes) bytes i s kept order given turns
+
+-- the start of the loop
+pub looping-start : {bytes : List ℕ} {rows : List Row} {from : ℕ} {s : State} {kept : List Kept} → rows ≡ map rowOf (Blank ∷ printed) → kept ≡ replicate 256 unkept
+    → Startable (fieldsIn bytes) bytes from s
+    → Looping bytes rows (s .n) (s .h) (s .kind) (s .capacity) from s kept (replicate 256 0) (replicate 17 4335) (replicate 16 65535)
+looping-start {bytes = bytes} {from = from} table fresh ready =
+    let running = running-start (fieldsIn bytes) bytes (ready .fits) from (ready .schedule) in
+    record {
+      fits = ready .fits;
+      table = table;
+      threads = refl;
+      limit = refl;
+      object = refl;
+      room = refl;
+      inside = ready .inside;
+      running = rw (ready .start, fresh) running;
+    }
+
+module _ {bytes : List ℕ} {rows : List Row} {n h capacity i : ℕ} {kind : Kind} {s : State} {kept : List Kept} {order given turns : List ℕ}
+    (x : Looping bytes rows n h kind capacity i s kept order given turns) where
+  -- one more entry
+  pub looping-next : (inside : i < length bytes) {k p remote call their : ℕ} {r : Row} {m : NodeId} {ob : Applied} {e : Effect} {copies order′ given′ turns′ : List ℕ} {more counts : Counts} {d mine theirs : Kept}
+      {J : State} {answer : Answer} → Called s (record { 0 = getD bytes i 0 }) k r m p ob e remote copies more → Serves s J answer ob → counts ≡ wrapped (plus (s .counts) more)
+      → Booked (fieldsIn bytes) bytes (x .fits) (x .running) inside d k m answer e remote call their order′ given′ turns′ mine theirs
+      → Looping bytes rows n h kind capacity (i + 1) (made J (record { 0 = getD bytes i 0 }) m (J .object) e copies counts) (set (set kept call mine) their theirs) order′ given′ turns′
+  looping-next inside called serves sum b =
+      let next = turn (fieldsIn bytes) bytes (x .fits) (x .running) inside called sum (rw (serves .answers) at b) in
+      rw (serves .state) (record {
+        fits = x .fits;
+        table = x .table;
+        threads = x .threads;
+        limit = x .limit;
+        object = x .object;
+        room = x .room;
+        inside = omega arith;
+        running = next;
+      })
+
+  -- the end of the loop
+  pub looping-ends : length bytes ≤ i → _≡_ {A = Played} (record { refusal = 0; counts = s .counts; kept = kept; order = order }) (playedOf (fieldsIn bytes))
+  looping-ends done =
+      let run = x .running in
+      let whole = ends-none (fieldsIn bytes) bytes (x .fits) run done in
+      rw (← whole, run .going .counted .counts, run .tables .swaps, is-tabled (λ p. keptOf (run .past) (callAt p)) kept 256 unkept (run .tables .calls-long) (run .tables .calls)) refl

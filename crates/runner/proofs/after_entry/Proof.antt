@@ -1,0 +1,13 @@
+-- `runner::after_entry` meets its contract. Assumes nothing.
+use borrow.Author.Needs.{needs}
+use Rattle.runner.proofs.after_entry.Statement.{statement}
+use Rattle.runner.proofs.after_entry.Tie as tie
+
+wrapping-add-u32-requires : tie.Need-wrapping-add-u32-requires
+wrapping-add-u32-requires c κs = search needs
+
+returns : tie.Need-returns
+returns c = simp (c .before .wrapping-add-u32 .ensures)
+
+pub after-entry-spec : {M : Type 1} → statement M
+after-entry-spec = tie.close (tie.spec wrapping-add-u32-requires returns)

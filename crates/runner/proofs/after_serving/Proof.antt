@@ -1,0 +1,20 @@
+-- `runner::after_serving` meets its contract. Assumes nothing.
+use borrow.Author.Needs.{needs}
+use Rattle.runner.proofs.after_serving.Statement.{statement}
+use Rattle.runner.proofs.after_serving.Tie as tie
+
+answer-mark-requires : tie.Need-answer-mark-requires
+answer-mark-requires c κs = search needs
+
+answer-value-requires : tie.Need-answer-value-requires
+answer-value-requires c κs = search needs
+
+returns : tie.Need-returns
+returns c = simp (c .answer-value .ensures, c .before .answer-mark .ensures, c .before .before .if1 .taken)
+
+returns-2 : tie.Need-returns-2
+returns-2 c = search needs
+
+pub after-serving-spec : {M : Type 1} → statement M
+after-serving-spec =
+    tie.close (tie.spec answer-mark-requires answer-value-requires returns returns-2)

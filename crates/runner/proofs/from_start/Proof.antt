@@ -1,0 +1,282 @@
+-- `runner::from_start` meets its contract. Assumes nothing.
+use Prim.Native.Nat.{_-_, _<_}
+use native.Mathlib.Omega.{arith}
+use mathlib.Core.Path.{_≡_, refl, ap, _∙_}
+use mathlib.Core.Logic.{⊎-elim}
+use mathlib.Core.List.{List, _∷_}
+use lib.ListN.{length, getD, replicate, List·getD-map}
+use borrow.Author.Needs.{needs}
+use Rattle.machine.specs.declared.Row.{Row}
+use Rattle.machine.specs.Lines.{Blank, printed, lineOf, silent, rowOf}
+use Rattle.step.specs.Entry.{zeroNode, appliedAt}
+use Rattle.step.proofs.Entering.{is-target, Called}
+use Rattle.runner.proofs.Running.{Looping, thread-few, line-few, node-few, slot-few, call-below, their-below, is-call, is-served, Serves, at-16, not-at-16, looping-start, looping-next, looping-ends}
+use Rattle.runner.proofs.from_start.Statement.{statement}
+use Rattle.runner.proofs.from_start.Tie as tie
+
+abbrev Inv-loop : tie.InvT-loop
+Inv-loop file schedule rows n h kind capacity state₀ kept₀ order₀ given₀ turns₀ i₀ state kept order given turns i =
+    Looping file rows n h kind capacity i state kept order given turns
+
+abbrev μ-loop : tie.MeasureT-loop
+μ-loop file schedule rows n h kind capacity state₀ kept₀ order₀ given₀ turns₀ i₀ state kept order given turns i =
+    length file - i
+
+-- what the entry reads lies within the arrays
+thread-below : (c : tie.In-loop Inv-loop μ-loop) → getD (c .before .before .before .before .before .args .file .now) (c .before .loop .i) 0 < 16
+thread-below c = let now = c .before .loop .inv in thread-few _ _ (now .fits) (now .running) (c .loop-test .taken)
+
+line-below : (c : tie.After-line-run Inv-loop μ-loop) → c .line-run .result < 22
+line-below c = let at = c .before .before .before .before in let now = at .before .loop .inv in line-few _ _ (now .fits) (now .running) (at .loop-test .taken) (c .line-run .ensures)
+
+row-of : (c : tie.After-line-run Inv-loop μ-loop) → getD (c .before .before .before .before .before .before .before .all-rows .result) (c .line-run .result) silent ≡ rowOf (lineOf (c .line-run .result))
+row-of c =
+    ap (λ (l : List Row). getD l (c .line-run .result) silent) (c .before .before .before .before .before .loop .inv .table)
+    ∙ List·getD-map rowOf (Blank ∷ printed) (c .line-run .result) Blank
+
+node-below : (c : tie.After-pointed Inv-loop μ-loop) → c .pointed .result .0 < 17
+node-below c =
+    let at = c .before .before .before .before .before .before in
+    let now = at .before .loop .inv in
+    let lined = c .before .before in
+    node-few _ _ (now .fits) (now .running) (at .loop-test .taken)
+    (is-target (at .before .loop .state) (record { 0 = getD (at .before .before .before .before .before .args .file .now) (at .before .loop .i) 0 }) (lined .line-run .ensures) (row-of lined) (c .pointed .ensures))
+
+place-below : (c : tie.After-call-place Inv-loop μ-loop) → c .call-place .result < 256
+place-below c = let at = c .before .before .before .before .before .before .before .before .before in let now = at .before .loop .inv in slot-few _ _ (now .fits) (now .running) (at .loop-test .taken) (c .call-place .ensures)
+
+serves : (c : tie.Joined1 Inv-loop μ-loop) → Serves (c .before .before .before .before .before .before .before .before .before .before .before .before .before .before .loop .state) (c .if1 .state) (c .if1 .answer) (appliedAt (c .before .before .before .before .before .before .before .before .before .line-run .result) (c .before .before .before .before .before .before .before .before .before .before .before .before .before .before .loop .state .kind) (c .before .before .before .before .before .before .before .before .before .before .before .before .before .before .loop .state .capacity) (c .before .before .before .before .before .before .before .before .before .before .before .before .before .before .loop .state .object) (getD (c .before .before .before .before .before .before .before .before .before .before .before .before .before .before .loop .state .nodes) (c .before .before .before .before .before .before .before .pointed .result .0) zeroNode .req))
+serves c =
+    let s = c .before .before .before .before .before .before .before .before .before .before .before .before .before .before .loop .state in
+    let now = c .before .before .before .before .before .before .before .before .before .before .before .before .before .before .loop .inv in
+    let k = c .before .before .before .before .before .before .before .before .before .line-run .result in
+    let req = getD (s .nodes) (c .before .before .before .before .before .before .before .pointed .result .0) zeroNode .req in
+    ⊎-elim (λ w. at-16 s (c .if1 .state) (c .if1 .answer) k req (w .0 .taken) (rw (now .object, now .room) at (w .2 .ensures)) (w .5) (w .4))
+    (λ w. not-at-16 s (c .if1 .state) (c .if1 .answer) k req (w .0 .left) (w .2) (w .1))
+    (c .if1 .came)
+
+-- what the calls for the entry answered
+called : (c : tie.After-more-of Inv-loop μ-loop)
+    → Called (c .before .before .before .before .before .before .before .before .before .before .before .before .before .before .before .before .before .before .loop .state) (record { 0 = getD (c .before .before .before .before .before .before .before .before .before .before .before .before .before .before .before .before .before .before .before .before .before .before .args .file .now) (c .before .before .before .before .before .before .before .before .before .before .before .before .before .before .before .before .before .before .loop .i) 0 }) (c .before .before .before .before .before .before .before .before .before .before .before .before .before .line-run .result) (getD (c .before .before .before .before .before .before .before .before .before .before .before .before .before .before .before .before .before .before .before .before .all-rows .result) (c .before .before .before .before .before .before .before .before .before .before .before .before .before .line-run .result) silent) (c .before .before .before .before .before .before .before .before .before .before .before .pointed .result) (c .before .before .before .before .before .before .before .before .call-place .result) (appliedAt (c .before .before .before .before .before .before .before .before .before .before .before .before .before .line-run .result) (c .before .before .before .before .before .before .before .before .before .before .before .before .before .before .before .before .before .before .loop .state .kind) (c .before .before .before .before .before .before .before .before .before .before .before .before .before .before .before .before .before .before .loop .state .capacity) (c .before .before .before .before .before .before .before .before .before .before .before .before .before .before .before .before .before .before .loop .state .object) (getD (c .before .before .before .before .before .before .before .before .before .before .before .before .before .before .before .before .before .before .loop .state .nodes) (c .before .before .before .before .before .before .before .before .before .before .before .pointed .result .0) zeroNode .req)) (c .before .before .before .run-line .result) (c .before .refer-all .result) (c .before .refer-all .last .0) (c .more-of .result)
+called c =
+    let joined = c .before .before .before .before in
+    let now = c .before .before .before .before .before .before .before .before .before .before .before .before .before .before .before .before .before .before .loop .inv in
+    record { line-run = c .before .before .before .before .before .before .before .before .before .before .before .before .before .line-run .ensures; row-of = row-of (c .before .before .before .before .before .before .before .before .before .before .before .before .before); pointed-to = c .before .before .before .before .before .before .before .before .before .before .before .pointed .ensures; place = c .before .before .before .before .before .before .before .before .call-place .ensures; applied-at = refl; effect-of = rw (serves joined .answers, now .limit) at (c .before .before .before .run-line .ensures); remote-of = rw (serves joined .state, now .threads) at (c .before .refer-all .ensures .0); copies-of = rw (serves joined .state, now .threads) at (c .before .refer-all .ensures .1); more-of = c .more-of .ensures }
+
+-- the places of the entry's call and of the call that it serves
+call-small : (c : tie.After-call-place2 Inv-loop μ-loop) → c .call-place2 .result < 256
+call-small c =
+    let at = c .before .before .before .before .before .before .before .before .before .before .before .before .before .before .before .before .before .before .before .before .before .before in
+    let now = at .before .loop .inv in
+    let is = is-call _ _ (now .fits) (now .running) (at .loop-test .taken) (called (c .before .before .before .before .before)) (c .call-place2 .ensures) in
+    omega (arith, is, call-below _ _ (now .fits) (now .running) (at .loop-test .taken))
+
+served-small : (c : tie.After-served-place Inv-loop μ-loop) → c .served-place .result < 256
+served-small c =
+    let at = c .before .before .before .before .before .before .before .before .before .before .before .before .before .before .before .before .before .before .before .before .before .before .before in
+    let now = at .before .loop .inv in
+    let is = is-served _ _ (now .fits) (now .running) (at .loop-test .taken) (called (c .before .before .before .before .before .before)) (c .before .call-place2 .ensures) (c .served-place .ensures) in
+    omega (arith, is, their-below _ _ (now .fits) (now .running) (at .loop-test .taken))
+
+all-rows-requires : tie.Need-all-rows-requires Inv-loop μ-loop
+all-rows-requires c κs = search needs
+
+unkept-requires : tie.Need-unkept-requires Inv-loop μ-loop
+unkept-requires c κs = search needs
+
+loop-holds : tie.Need-loop-holds Inv-loop μ-loop
+loop-holds c = looping-start (c .before .all-rows .ensures) (ap (replicate 256) (c .unkept .ensures)) (c .before .before .before .pre)
+
+shared-slice-read-t52 : tie.Need-shared-slice-read-t52 Inv-loop μ-loop
+shared-slice-read-t52 c = c .before .loop-test .taken
+
+cast-t : tie.Need-cast-t Inv-loop μ-loop
+cast-t c = omega (arith, thread-below (c .before .before))
+
+mul-named : tie.Need-mul-named Inv-loop μ-loop
+mul-named c = omega (arith, thread-below (c .before .before))
+
+element-copy-out-named : tie.Need-element-copy-out-named Inv-loop μ-loop
+element-copy-out-named c = thread-below (c .before .before)
+
+line-run-requires : tie.Need-line-run-requires Inv-loop μ-loop
+line-run-requires c κs = search needs
+
+cast-row : tie.Need-cast-row Inv-loop μ-loop
+cast-row c = omega (arith, line-below c)
+
+mul-row : tie.Need-mul-row Inv-loop μ-loop
+mul-row c = omega (arith, line-below c)
+
+array-copy-out-row : tie.Need-array-copy-out-row Inv-loop μ-loop
+array-copy-out-row c = line-below c
+
+pointed-requires : tie.Need-pointed-requires Inv-loop μ-loop
+pointed-requires c κs = search needs
+
+cast-m : tie.Need-cast-m Inv-loop μ-loop
+cast-m c = omega (arith, node-below (c .before))
+
+mul-node : tie.Need-mul-node Inv-loop μ-loop
+mul-node c = omega (arith, node-below (c .before))
+
+element-copy-out-node : tie.Need-element-copy-out-node Inv-loop μ-loop
+element-copy-out-node c = node-below (c .before)
+
+call-place-requires : tie.Need-call-place-requires Inv-loop μ-loop
+call-place-requires c κs = search needs
+
+mul-slot : tie.Need-mul-slot Inv-loop μ-loop
+mul-slot c = omega (arith, place-below c)
+
+element-copy-out-slot : tie.Need-element-copy-out-slot Inv-loop μ-loop
+element-copy-out-slot c = place-below c
+
+served-by-requires : tie.Need-served-by-requires Inv-loop μ-loop
+served-by-requires c κs = search needs
+
+run-line-requires : tie.Need-run-line-requires Inv-loop μ-loop
+run-line-requires c κs = search needs
+
+refer-all-requires : tie.Need-refer-all-requires Inv-loop μ-loop
+refer-all-requires c κs = search needs
+
+more-of-requires : tie.Need-more-of-requires Inv-loop μ-loop
+more-of-requires c κs = search needs
+
+plus-requires : tie.Need-plus-requires Inv-loop μ-loop
+plus-requires c κs = search needs
+
+mul-thread-after : tie.Need-mul-thread-after Inv-loop μ-loop
+mul-thread-after c = omega (arith, thread-below (c .before .before .before .before .before .before .before .before .before .before .before .before .before .before .before .before .before .before .before .before .before))
+
+element-set-from-thread-after : tie.Need-element-set-from-thread-after Inv-loop μ-loop
+element-set-from-thread-after c = thread-below (c .before .before .before .before .before .before .before .before .before .before .before .before .before .before .before .before .before .before .before .before .before)
+
+mul-node-after : tie.Need-mul-node-after Inv-loop μ-loop
+mul-node-after c = omega (arith, node-below (c .before .before .before .before .before .before .before .before .before .before .before .before .before .before .before))
+
+element-set-from-node-after : tie.Need-element-set-from-node-after Inv-loop μ-loop
+element-set-from-node-after c = node-below (c .before .before .before .before .before .before .before .before .before .before .before .before .before .before .before)
+
+call-place-requires-2 : tie.Need-call-place-requires-2 Inv-loop μ-loop
+call-place-requires-2 c κs = search needs
+
+mul-turn : tie.Need-mul-turn Inv-loop μ-loop
+mul-turn c = omega (arith, thread-below (c .before .before .before .before .before .before .before .before .before .before .before .before .before .before .before .before .before .before .before .before .before .before))
+
+array-read-turn : tie.Need-array-read-turn Inv-loop μ-loop
+array-read-turn c = thread-below (c .before .before .before .before .before .before .before .before .before .before .before .before .before .before .before .before .before .before .before .before .before .before)
+
+mul-served-place : tie.Need-mul-served-place Inv-loop μ-loop
+mul-served-place c = omega (arith, node-below (c .before .before .before .before .before .before .before .before .before .before .before .before .before .before .before .before))
+
+array-read-served-place : tie.Need-array-read-served-place Inv-loop μ-loop
+array-read-served-place c = node-below (c .before .before .before .before .before .before .before .before .before .before .before .before .before .before .before .before)
+
+served-place-requires : tie.Need-served-place-requires Inv-loop μ-loop
+served-place-requires c κs = search needs
+
+note-requires : tie.Need-note-requires Inv-loop μ-loop
+note-requires c κs = thread-below (c .before .before .before .before .before .before .before .before .before .before .before .before .before .before .before .before .before .before .before .before .before .before .before .before .before .before)
+
+mul-mine : tie.Need-mul-mine Inv-loop μ-loop
+mul-mine c = omega (arith, call-small (c .before .before .before .before .before))
+
+array-copy-out-mine : tie.Need-array-copy-out-mine Inv-loop μ-loop
+array-copy-out-mine c = call-small (c .before .before .before .before .before)
+
+after-entry-requires : tie.Need-after-entry-requires Inv-loop μ-loop
+after-entry-requires c κs = search needs
+
+mul-kept : tie.Need-mul-kept Inv-loop μ-loop
+mul-kept c = omega (arith, call-small (c .before .before .before .before .before .before .before))
+
+array-set-from-kept : tie.Need-array-set-from-kept Inv-loop μ-loop
+array-set-from-kept c = call-small (c .before .before .before .before .before .before .before)
+
+mul-theirs : tie.Need-mul-theirs Inv-loop μ-loop
+mul-theirs c = omega (arith, served-small (c .before .before .before .before .before .before))
+
+array-copy-out-theirs : tie.Need-array-copy-out-theirs Inv-loop μ-loop
+array-copy-out-theirs c = served-small (c .before .before .before .before .before .before)
+
+after-serving-requires : tie.Need-after-serving-requires Inv-loop μ-loop
+after-serving-requires c κs = search needs
+
+mul-kept-2 : tie.Need-mul-kept-2 Inv-loop μ-loop
+mul-kept-2 c = omega (arith, served-small (c .before .before .before .before .before .before .before .before))
+
+array-set-from-kept-2 : tie.Need-array-set-from-kept-2 Inv-loop μ-loop
+array-set-from-kept-2 c = served-small (c .before .before .before .before .before .before .before .before)
+
+add-i : tie.Need-add-i Inv-loop μ-loop
+add-i c = omega (arith, c .before .before .before .before .before .before .before .before .before .before .before .before .before .before .before .before .before .before .before .before .before .before .before .before .before .before .before .before .before .before .before .loop-test .taken, c .before .before .before .before .before .before .before .before .before .before .before .before .before .before .before .before .before .before .before .before .before .before .before .before .before .before .before .before .before .before .before .before .before .before .before .before .good)
+
+loop-less : tie.Need-loop-less Inv-loop μ-loop
+loop-less c = omega (arith, c .before .before .before .before .before .before .before .before .before .before .before .before .before .before .before .before .before .before .before .before .before .before .before .before .before .before .before .before .before .before .before .loop-test .taken)
+
+loop-again : tie.Need-loop-again Inv-loop μ-loop
+loop-again c =
+    let at = c .before .before .before .before .before .before .before .before .before .before .before .before .before .before .before .before .before .before .before .before .before .before .before .before .before .before .before .before .before .before .before in
+    let noted = c .before .before .before .before .note .ensures in
+    looping-next (at .before .loop .inv) (at .loop-test .taken) (called (c .before .before .before .before .before .before .before .before .before .before .before .before .before .before)) (serves (c .before .before .before .before .before .before .before .before .before .before .before .before .before .before .before .before .before .before)) (c .before .before .before .before .before .before .before .before .before .before .plus .ensures)
+    (record { of-call = c .before .before .before .before .before .before .before .before .before .call-place2 .ensures; of-served = c .before .before .before .before .before .before .before .before .served-place .ensures; of-turns = noted .0; of-given = noted .1 .0; of-order = noted .1 .1; of-mine = c .before .before .after-entry .ensures; of-theirs = c .after-serving .ensures })
+
+returns : tie.Need-returns Inv-loop μ-loop
+returns c = looping-ends (c .before .before .loop .inv) (c .before .loop-test .left)
+
+pub from-start-spec : {M : Type 1} → statement M
+from-start-spec =
+    tie.close
+    (tie.spec
+    Inv-loop
+    μ-loop
+    all-rows-requires
+    unkept-requires
+    loop-holds
+    shared-slice-read-t52
+    cast-t
+    mul-named
+    element-copy-out-named
+    line-run-requires
+    cast-row
+    mul-row
+    array-copy-out-row
+    pointed-requires
+    cast-m
+    mul-node
+    element-copy-out-node
+    call-place-requires
+    mul-slot
+    element-copy-out-slot
+    served-by-requires
+    run-line-requires
+    refer-all-requires
+    more-of-requires
+    plus-requires
+    mul-thread-after
+    element-set-from-thread-after
+    mul-node-after
+    element-set-from-node-after
+    call-place-requires-2
+    mul-turn
+    array-read-turn
+    mul-served-place
+    array-read-served-place
+    served-place-requires
+    note-requires
+    mul-mine
+    array-copy-out-mine
+    after-entry-requires
+    mul-kept
+    array-set-from-kept
+    mul-theirs
+    array-copy-out-theirs
+    after-serving-requires
+    mul-kept-2
+    array-set-from-kept-2
+    add-i
+    loop-less
+    loop-again
+    returns)

@@ -1,0 +1,56 @@
+-- `runner::play` meets its contract. Assumes nothing.
+use native.Mathlib.Omega.{arith}
+use mathlib.Core.Path.{_∙_}
+use borrow.Author.Needs.{needs}
+use Rattle.bench_file.specs.Layout.{judgeOf}
+use Rattle.bench_file.proofs.Each.{each-at}
+use Rattle.runner.proofs.Playing.{Ready, ready, refused-plays, too-short, enough}
+use Rattle.runner.proofs.play.Statement.{statement}
+use Rattle.runner.proofs.play.Tie as tie
+
+-- a file that is not refused is loaded
+now : (c : tie.Else1) → Ready (c .before .before .before .before .args .file .now) (judgeOf (c .before .before .before .before .args .file .now)) (c .before .before .load .result)
+now c =
+    let bytes = c .before .before .before .before .args .file .now in
+    ready bytes (each-at bytes (λ i. omega (arith, c .before .before .before .shared-slice-known .given i))) (c .before .before .load .ensures) (c .if1 .left)
+
+load-requires : tie.Need-load-requires
+load-requires c κs = search needs
+
+unplayed-requires : tie.Need-unplayed-requires
+unplayed-requires c κs = search needs
+
+returns : tie.Need-returns
+returns c = c .unplayed .ensures ∙ refused-plays (judgeOf (c .before .before .before .before .before .args .file .now)) _ (c .before .before .before .load .ensures) (c .before .if1 .taken)
+
+mul-if2 : tie.Need-mul-if2
+mul-if2 c = omega (arith, now (c .before) .few)
+
+unplayed-requires-2 : tie.Need-unplayed-requires-2
+unplayed-requires-2 c κs = search needs
+
+returns-2 : tie.Need-returns-2
+returns-2 c = c .unplayed2 .ensures ∙ too-short (now (c .before .before .before)) _ (c .before .if2 .taken)
+
+sub-schedule : tie.Need-sub-schedule
+sub-schedule c = now (c .before .before .before .before) .entries
+
+from-start-requires : tie.Need-from-start-requires
+from-start-requires c κs = now (c .before .before .before .before) .start
+
+returns-3 : tie.Need-returns-3
+returns-3 c = c .from-start .ensures ∙ enough (now (c .before .before .before .before .before)) _ (c .before .before .before .if2 .left)
+
+pub play-spec : {M : Type 1} → statement M
+play-spec =
+    tie.close
+    (tie.spec
+    load-requires
+    unplayed-requires
+    returns
+    mul-if2
+    unplayed-requires-2
+    returns-2
+    sub-schedule
+    from-start-requires
+    returns-3)

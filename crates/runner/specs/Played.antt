@@ -1,0 +1,59 @@
+-- What a run in place leaves: its counts, what is kept of each call, and Swap order; from the entries of the file's run.
+use Prim.Native.Nat.{ℕ, zero, suc, _+_, _*_, _≤_}
+use mathlib.Core.Path.{_≡_}
+use mathlib.Core.Bool.{cond}
+use mathlib.Core.List.{List, [], _∷_, map, reverse}
+use lib.ListN.{length, drop, replicate}
+use lib.Dec.{ltb}
+use Rattle.object.specs.declared.Kind.the-variants.{Queue}
+use Rattle.bench_file.specs.Layout.{Fields, Judgement, accepted, refusedBy, judgeOf}
+use Rattle.bench_file.specs.Bytes.{InRange}
+use Rattle.bench_file.specs.Cursor.{sumOver}
+use Rattle.state.specs.declared.State.{State}
+use Rattle.claims.specs.Entries.{Entry, filled, startOf, entriesOf}
+use Rattle.claims.specs.Terms.{swapOrder, countsOf}
+use Rattle.claims.specs.Result.{counted}
+use Rattle.runner.specs.declared.Kept.{Kept}
+use Rattle.runner.specs.declared.Played.{Played}
+use Rattle.runner.specs.Kept.{placeOf, callAt, keptOf, unkept}
+
+-- the fields of an accepted file; of a refused one none
+abbrev pub fieldsOf : Judgement → Fields
+fieldsOf (accepted f) = f
+fieldsOf (refusedBy number) = record { head = record { object = Queue; n = 0; h = 0; capacity = 0 }; rows = []; schedule = [] }
+
+abbrev pub fieldsIn : List ℕ → Fields
+fieldsIn bytes = fieldsOf (judgeOf bytes)
+
+-- fields in range, the schedule from a place on to the end of the bytes, and the fresh machine
+pub record Startable (f : Fields) (bytes : List ℕ) (from : ℕ) (s : State) : Type 0 where
+  pub fits : InRange f
+  pub schedule : drop from bytes ≡ f .schedule
+  pub inside : from ≤ length bytes
+  pub start : s ≡ startOf f
+
+-- a list of so many values, by their places from one on
+unfoldable pub tabled : {A : Type 0} → (ℕ → A) → ℕ → ℕ → List A
+tabled value from zero = []
+tabled value from (suc k) = value from ∷ tabled value (from + 1) k
+
+-- what is left after all entries of a file
+abbrev pub playedBy : List Entry → Played
+playedBy run = record {
+  refusal = 0;
+  counts = countsOf run;
+  kept = tabled (λ p. keptOf run (callAt p)) 0 256;
+  order = filled 256 0 (map placeOf (swapOrder run));
+}
+
+abbrev pub playedOf : Fields → Played
+playedOf f = playedBy (reverse (entriesOf f))
+
+-- nothing is kept of a refusal
+abbrev pub unplayed : ℕ → Played
+unplayed number = record { refusal = number; counts = counted 0 0 0 0 0; kept = replicate 256 unkept; order = replicate 256 0 }
+
+-- a file's run with so many bytes lent for its records: 16 for each request in the file, performed or not, else 13
+abbrev pub playedIn : ℕ → Judgement → Played
+playedIn lent (accepted f) = cond (ltb lent (16 * sumOver length (f .rows))) (unplayed 13) (playedOf f)
+playedIn lent (refusedBy number) = unplayed number
