@@ -1,0 +1,43 @@
+-- A text that is laid into the lent buffer, or that is too long for it, is given as promised. Assumes nothing.
+use Prim.Native.Nat.{ℕ, _+_, _≤_, _<_}
+use native.Mathlib.Nat.{zero-add}
+use native.Mathlib.Omega.{arith}
+use mathlib.Core.Path.{_≡_, ap, _∙_}
+use mathlib.Core.List.{List}
+use lib.ListN.{length, take, drop}
+use lib.Seq.{take-at}
+use borrow.Author.Tests.{le-leb, lt-leb}
+use Rattle.bench_file.specs.Layout.{judgeOf}
+use Rattle.listing.specs.declared.Listed.{Listed}
+use Rattle.listing.specs.Listing.{listingOf}
+use Rattle.listing.specs.Laid.{Laid}
+use Rattle.listing.specs.Promise.{Gives, Lists, enoughBytes}
+
+module _ (words old : List ℕ) where
+  pub too-short : length old < length words → Gives words old old (record { refusal = 13; length = 0 })
+  too-short h = let e = lt-leb (length words) (length old) h in record { answer = rw e; buffer = rw e }
+
+  pub fits : {new : List ℕ} {next : ℕ} → Laid old 0 words new next → Gives words old new (record { refusal = 0; length = next })
+  fits l =
+      let e = le-leb (length words) (length old) (omega (arith, l .room)) in
+      record { answer = rw (e, l .behind, zero-add); buffer = rw e (l .buffer ∙ rw zero-add) }
+
+-- a text that was laid from a buffer's first byte on is what stands there, and is given as such
+module _ {old words new : List ℕ} {next : ℕ} (l : Laid old 0 words new next) where
+  abbrev as-long : length words ≡ next
+  as-long = omega (arith, l .behind)
+
+  front : take next new ≡ words
+  front = rw (l .buffer) (take-at words (drop (0 + length words) old) next as-long)
+
+  pub front-length : next ≡ length (take next new)
+  front-length = rw front (omega (arith, as-long))
+
+  pub given : {out after : List ℕ} {r : Listed} (most : ℕ) → next ≤ most → Gives (take next new) out after r → Gives words out after r × (most ≤ length out → r .refusal ≡ 0)
+  given {out} {after} {r} most h g =
+      let g′ : Gives words out after r = rw front at g in
+      (g′, λ room. ap (λ (a : Listed). a .refusal) (g′ .answer) ∙ rw (le-leb (length words) (length out) (omega (arith, as-long))))
+
+-- what is given of a file's listing is promised
+pub lists : (bytes : List ℕ) {words old new : List ℕ} {r : Listed} → words ≡ listingOf (judgeOf bytes) → Gives words old new r × (enoughBytes ≤ length old → r .refusal ≡ 0) → Lists bytes old new r
+lists bytes e (g, enough) = record { gives = rw (← e) g; enough = enough }

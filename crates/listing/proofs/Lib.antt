@@ -1,0 +1,6 @@
+pub mod Decimal
+pub mod Example
+pub mod Giving
+pub mod Laid
+pub mod Records
+pub mod Rows

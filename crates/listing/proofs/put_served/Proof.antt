@@ -1,0 +1,44 @@
+-- `listing::put_served` meets its contract: a hyphen, or the number. Assumes nothing.
+use native.Mathlib.Omega.{arith}
+use borrow.Author.Needs.{needs}
+use borrow.Author.Tests.{eq-eqb, ne-eqb}
+use Rattle.listing.proofs.Laid.{asked}
+use Rattle.listing.proofs.put_served.Statement.{statement}
+use Rattle.listing.proofs.put_served.Tie as tie
+
+slice-aggregate-put-text : tie.Need-slice-aggregate-put-text
+slice-aggregate-put-text c = search needs
+
+put-text-requires : tie.Need-put-text-requires
+put-text-requires c κs = search needs
+
+same-length : tie.Need-same-length
+same-length c = search needs
+
+returns : tie.Need-returns
+returns c = asked _ _ (c .before .before .put-text .ensures) (rw (eq-eqb _ _ (c .before .before .before .before .before .if1 .taken))) (omega arith)
+
+slice-aggregate-put-named : tie.Need-slice-aggregate-put-named
+slice-aggregate-put-named c = search needs
+
+put-named-requires : tie.Need-put-named-requires
+put-named-requires c κs = search needs
+
+same-length-2 : tie.Need-same-length-2
+same-length-2 c = search needs
+
+returns-2 : tie.Need-returns-2
+returns-2 c = rw (ne-eqb _ _ (c .before .before .before .before .before .if1 .left)) (c .before .before .put-named .ensures)
+
+pub put-served-spec : {M : Type 1} → statement M
+put-served-spec =
+    tie.close
+    (tie.spec
+    slice-aggregate-put-text
+    put-text-requires
+    same-length
+    returns
+    slice-aggregate-put-named
+    put-named-requires
+    same-length-2
+    returns-2)

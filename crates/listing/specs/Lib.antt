@@ -1,0 +1,4 @@
+pub mod Laid
+pub mod Listing
+pub mod Promise
+pub mod Text

@@ -1,0 +1,33 @@
+-- Text as bytes: words, numbers in decimal, and lines of words.
+use Prim.Native.Nat.{ℕ, zero, suc, _+_, _/_, _%_}
+use Prim.Native.Char.{code}
+use Prim.Native.String.{String, [] as nothing, _∷_ as _then_}
+use mathlib.Core.Bool.{cond}
+use mathlib.Core.List.{List, [], _∷_, _++_}
+use lib.Dec.{ltb}
+
+-- the codes of a text, which are its bytes where it is ASCII
+abbrev pub text : String → List ℕ
+text nothing = []
+text (c then s) = code c ∷ text s
+
+-- one digit
+abbrev pub digit : ℕ → List ℕ
+digit d = (48 + d) ∷ []
+
+-- the digits of a number, the highest first and without leading zeros: one, and before it so many at most
+unfoldable pub digits : ℕ → ℕ → List ℕ
+digits zero n = digit n
+digits (suc before) n = cond (ltb n 10) (digit n) (digits before (n / 10) ++ digit (n % 10))
+
+-- a number in decimal: ten digits hold every number of 32 bits
+abbrev pub decimal : ℕ → List ℕ
+decimal n = digits 9 n
+
+-- a line: words separated by one space and ended by a newline
+abbrev pub lineEnd : List (List ℕ) → List ℕ
+lineEnd [] = text "\n"
+lineEnd (word ∷ words) = text " " ++ (word ++ lineEnd words)
+
+abbrev pub line : List ℕ → List (List ℕ) → List ℕ
+line word words = word ++ lineEnd words

@@ -1,0 +1,295 @@
+// The listing of a file's run, as text.
+use bench_file::Head;
+use machine::RetVal;
+use object::Answer;
+use object::Kind;
+use state::Counts;
+ghost use mathlib.Core.Path.{_≡_};
+ghost use mathlib.Core.List.{[], _∷_, _++_};
+ghost use Prim.Native.Nat.{_+_, _*_, _≤_, _<_};
+ghost use lib.ListN.{length};
+ghost use Rattle.listing.specs.Text.{text, digit, decimal, lineEnd};
+ghost use Rattle.listing.specs.Listing.{kindWord, countWords, headLine, retOf, answerWord, markWord, valueWord, servedWord, endWord, servingWords, byteAt, numberAt, recordLine, recordLines, refusalLine};
+ghost use Rattle.listing.specs.Laid.{Laid, rowsIn, headMost, lineMost};
+ghost use Rattle.listing.specs.Promise.{Gives, enoughBytes};
+
+// The listing of a file: refusal 0 and its length, or 13 with the buffer as it was.
+pub struct Listed {
+    pub refusal: u8,
+    pub length: usize,
+}
+
+// So many bytes hold every listing: a head line of at most 125 and 256 lines of at most 92.
+pub const ENOUGH: usize = 125 + 256 * 92;
+
+// Lays a text into a buffer from a place on. Each function that lays text answers the place behind it.
+fn put_text(out: &mut [u8], at: usize, word: &[u8]) -> usize
+    requires { ⌜ at + length (now word) ≤ length (now out) ⌝ }
+    ensures { λ r. ⌜ Laid (now (out .entry)) at (now (word .entry)) (now (out .exit)) r ⌝ }
+{
+    at + bytes::copy(word, &mut out[at..])
+}
+
+fn put_digit(out: &mut [u8], at: usize, d: u32) -> usize
+    requires { ⌜ (at < length (now out)) × (d < 10) ⌝ }
+    ensures { λ r. ⌜ Laid (now (out .entry)) at (digit d) (now (out .exit)) r ⌝ }
+{
+    put_text(out, at, &[48 + d as u8])
+}
+
+// A number, its highest digit first.
+fn put_decimal(out: &mut [u8], at: usize, number: u32) -> usize
+    requires { ⌜ at + length (decimal number) ≤ length (now out) ⌝ }
+    ensures { λ r. ⌜ Laid (now (out .entry)) at (decimal number) (now (out .exit)) r ⌝ }
+{
+    if number < 10 {
+        return put_digit(out, at, number);
+    }
+    let next = put_decimal(out, at, number / 10);
+    put_digit(out, next, number % 10)
+}
+
+// A number behind a name.
+fn put_named(out: &mut [u8], at: usize, name: &[u8], number: u32) -> usize
+    requires { ⌜ at + (length (now name) + 10) ≤ length (now out) ⌝ }
+    ensures { λ r. ⌜ Laid (now (out .entry)) at (now (name .entry) ++ decimal number) (now (out .exit)) r ⌝ }
+    ensures { λ r. ⌜ r ≤ at + (length (now (name .entry)) + 10) ⌝ }
+{
+    let next = put_text(out, at, name);
+    put_decimal(out, next, number)
+}
+
+// Server or turn, a hyphen before serving.
+fn put_served(out: &mut [u8], at: usize, none: u32, number: u32) -> usize
+    requires { ⌜ at + 11 ≤ length (now out) ⌝ }
+    ensures { λ r. ⌜ Laid (now (out .entry)) at (text " " ++ servedWord none number) (now (out .exit)) r ⌝ }
+    ensures { λ r. ⌜ r ≤ at + 11 ⌝ }
+{
+    if number == none {
+        return put_text(out, at, b" -");
+    }
+    put_named(out, at, b" ", number)
+}
+
+fn put_kind(out: &mut [u8], at: usize, kind: Kind) -> usize
+    requires { ⌜ at + 8 ≤ length (now out) ⌝ }
+    ensures { λ r. ⌜ Laid (now (out .entry)) at (text " " ++ kindWord kind) (now (out .exit)) r ⌝ }
+    ensures { λ r. ⌜ r ≤ at + 8 ⌝ }
+{
+    match kind {
+        Kind::Queue => put_text(out, at, b" queue"),
+        Kind::Stack => put_text(out, at, b" stack"),
+        Kind::Counter => put_text(out, at, b" counter"),
+    }
+}
+
+// The response that a record's mark and value stand for.
+fn ret_of(mark: u8, value: u32) -> RetVal
+    ensures { λ r. ⌜ r ≡ retOf mark value ⌝ }
+{
+    match mark {
+        0 => RetVal::Answered(Answer::Done),
+        1 => RetVal::Answered(Answer::Value(value)),
+        2 => RetVal::Answered(Answer::Empty),
+        3 => RetVal::Answered(Answer::Full),
+        _ => RetVal::NoAnswer,
+    }
+}
+
+fn put_answer(out: &mut [u8], at: usize, answer: Answer) -> usize
+    requires { ⌜ at + 6 ≤ length (now out) ⌝ }
+    ensures { λ r. ⌜ Laid (now (out .entry)) at (text " " ++ answerWord answer) (now (out .exit)) r ⌝ }
+    ensures { λ r. ⌜ r ≤ at + 6 ⌝ }
+{
+    match answer {
+        Answer::Done => put_text(out, at, b" done"),
+        Answer::Value(_) => put_text(out, at, b" value"),
+        Answer::Empty => put_text(out, at, b" empty"),
+        Answer::Full => put_text(out, at, b" full"),
+    }
+}
+
+fn put_mark(out: &mut [u8], at: usize, ret: RetVal) -> usize
+    requires { ⌜ at + 6 ≤ length (now out) ⌝ }
+    ensures { λ r. ⌜ Laid (now (out .entry)) at (text " " ++ markWord ret) (now (out .exit)) r ⌝ }
+    ensures { λ r. ⌜ r ≤ at + 6 ⌝ }
+{
+    match ret {
+        RetVal::NoAnswer => put_text(out, at, b" none"),
+        RetVal::Answered(answer) => put_answer(out, at, answer),
+    }
+}
+
+// The value of a response, a hyphen where it is no value.
+fn put_value(out: &mut [u8], at: usize, ret: RetVal) -> usize
+    requires { ⌜ at + 11 ≤ length (now out) ⌝ }
+    ensures { λ r. ⌜ Laid (now (out .entry)) at (text " " ++ valueWord ret) (now (out .exit)) r ⌝ }
+    ensures { λ r. ⌜ r ≤ at + 11 ⌝ }
+{
+    let RetVal::Answered(answer) = ret else {
+        return put_text(out, at, b" -");
+    };
+    let Answer::Value(v) = answer else {
+        return put_text(out, at, b" -");
+    };
+    put_named(out, at, b" ", v)
+}
+
+fn put_end(out: &mut [u8], at: usize, over: u8) -> usize
+    requires { ⌜ at + 10 ≤ length (now out) ⌝ }
+    ensures { λ r. ⌜ Laid (now (out .entry)) at (lineEnd (endWord over ∷ [])) (now (out .exit)) r ⌝ }
+    ensures { λ r. ⌜ r ≤ at + 10 ⌝ }
+{
+    if over == 1 {
+        return put_text(out, at, b" returned\n");
+    }
+    put_text(out, at, b" open\n")
+}
+
+// A byte of a record, and the numbers of two and of four bytes, the lowest first.
+fn byte(row: &[u8], i: usize) -> u32
+    requires { ⌜ i < length (now row) ⌝ }
+    ensures { λ r. ⌜ (r ≡ byteAt (now (row .entry)) i) × (r < 256) ⌝ }
+{
+    row[i] as u32
+}
+
+fn number2(row: &[u8], i: usize) -> u32
+    requires { ⌜ i + 2 ≤ length (now row) ⌝ }
+    ensures { λ r. ⌜ (r ≡ numberAt (now (row .entry)) i 2) × (r < 65536) ⌝ }
+{
+    byte(row, i) + 256 * byte(row, i + 1)
+}
+
+fn number4(row: &[u8], i: usize) -> u32
+    requires { ⌜ i + 4 ≤ length (now row) ⌝ }
+    ensures { λ r. ⌜ r ≡ numberAt (now (row .entry)) i 4 ⌝ }
+{
+    number2(row, i) + 65536 * number2(row, i + 2)
+}
+
+// A record's line from its server on.
+fn put_serving(out: &mut [u8], at: usize, row: &[u8]) -> usize
+    requires { ⌜ (length (now row) ≡ 16) × (at + 43 ≤ length (now out)) ⌝ }
+    ensures { λ r. ⌜ Laid (now (out .entry)) at (lineEnd (servingWords (byteAt (now (row .entry)) 3) (numberAt (now (row .entry)) 13 2) (numberAt (now (row .entry)) 8 4) (byteAt (now (row .entry)) 12))) (now (out .exit)) r ⌝ }
+    ensures { λ r. ⌜ r ≤ at + 43 ⌝ }
+{
+    let server = put_served(out, at, 255, byte(row, 3));
+    let turn = put_served(out, server, 65535, number2(row, 13));
+    let remote = put_named(out, turn, b" ", number4(row, 8));
+    put_end(out, remote, row[12])
+}
+
+// The line of a record, from its order and its 16 bytes.
+fn put_record(out: &mut [u8], at: usize, order: u32, row: &[u8]) -> usize
+    requires { ⌜ (length (now row) ≡ 16) × (at + lineMost ≤ length (now out)) ⌝ }
+    ensures { λ r. ⌜ Laid (now (out .entry)) at (recordLine order (now (row .entry))) (now (out .exit)) r ⌝ }
+    ensures { λ r. ⌜ r ≤ at + lineMost ⌝ }
+{
+    let ret = ret_of(row[2], number4(row, 4));
+    let numbered = put_named(out, at, b"", order);
+    let thread = put_named(out, numbered, b" ", byte(row, 0));
+    let request = put_named(out, thread, b" ", byte(row, 1));
+    let mark = put_mark(out, request, ret);
+    let value = put_value(out, mark, ret);
+    put_serving(out, value, row)
+}
+
+// The lines of so many records, of at most 256.
+fn put_records(out: &mut [u8], at: usize, rows: &[u8], count: usize) -> usize
+    requires { ⌜ (16 * count ≤ length (now rows)) × (at + lineMost * count ≤ length (now out)) × (count ≤ 256) ⌝ }
+    ensures { λ r. ⌜ Laid (now (out .entry)) at (recordLines 0 (rowsIn count (now (rows .entry)))) (now (out .exit)) r ⌝ }
+    ensures { λ r. ⌜ r ≤ at + lineMost * count ⌝ }
+{
+    let mut next = at;
+    let mut i = 0usize;
+    while i < count {
+        let from = 16 * i;
+        let end = from + 16;
+        next = put_record(out, next, i as u32, &rows[from..end]);
+        i += 1;
+    }
+    next
+}
+
+// The head line from the counts on.
+fn put_counts(out: &mut [u8], at: usize, counts: Counts) -> usize
+    requires { ⌜ at + 86 ≤ length (now out) ⌝ }
+    ensures { λ r. ⌜ Laid (now (out .entry)) at (lineEnd (countWords counts)) (now (out .exit)) r ⌝ }
+    ensures { λ r. ⌜ r ≤ at + 86 ⌝ }
+{
+    let calls = put_named(out, at, b" calls=", counts.records);
+    let turns = put_named(out, calls, b" turns=", counts.turns);
+    let blank = put_named(out, turns, b" blank=", counts.blanks);
+    let spin = put_named(out, blank, b" spin=", counts.spins);
+    let remote = put_named(out, spin, b" remote=", counts.remote);
+    put_text(out, remote, b"\n")
+}
+
+fn put_head(out: &mut [u8], at: usize, head: Head, counts: Counts) -> usize
+    requires { ⌜ at + headMost ≤ length (now out) ⌝ }
+    ensures { λ r. ⌜ Laid (now (out .entry)) at (headLine head counts) (now (out .exit)) r ⌝ }
+    ensures { λ r. ⌜ r ≤ at + headMost ⌝ }
+{
+    let kind = head.object;
+    let version = put_text(out, at, b"CCS 1");
+    let object = put_kind(out, version, kind);
+    let n = put_named(out, object, b" n=", head.n as u32);
+    let h = put_named(out, n, b" h=", head.h as u32);
+    put_counts(out, h, counts)
+}
+
+// The listing of a run, from the buffer's first byte on: its length.
+fn put_run(out: &mut [u8], head: Head, counts: Counts, rows: &[u8], count: usize) -> usize
+    requires { ⌜ (16 * count ≤ length (now rows)) × (headMost + lineMost * count ≤ length (now out)) × (count ≤ 256) ⌝ }
+    ensures { λ r. ⌜ Laid (now (out .entry)) 0 (headLine head counts ++ recordLines 0 (rowsIn count (now (rows .entry)))) (now (out .exit)) r ⌝ }
+    ensures { λ r. ⌜ r ≤ headMost + lineMost * count ⌝ }
+{
+    let next = put_head(out, 0, head, counts);
+    put_records(out, next, rows, count)
+}
+
+// The listing of a refusal, from the buffer's first byte on: its length.
+fn put_refusal(out: &mut [u8], number: u8) -> usize
+    requires { ⌜ 19 ≤ length (now out) ⌝ }
+    ensures { λ r. ⌜ Laid (now (out .entry)) 0 (refusalLine number) (now (out .exit)) r ⌝ }
+    ensures { λ r. ⌜ r ≤ 19 ⌝ }
+{
+    let next = put_named(out, 0, b"refused ", number as u32);
+    put_text(out, next, b"\n")
+}
+
+// Gives a text in a lent buffer, or 13.
+fn give(words: &[u8], out: &mut [u8]) -> Listed
+    ensures { λ r. ⌜ Gives (now (words .entry)) (now (out .entry)) (now (out .exit)) r ⌝ }
+{
+    if out.len() < words.len() {
+        return Listed {
+            refusal: 13,
+            length: 0,
+        };
+    }
+    let length = put_text(out, 0, words);
+    Listed { refusal: 0, length }
+}
+
+// Lists a run of at most 256 records.
+fn list_run(head: Head, counts: Counts, rows: &[u8], count: usize, out: &mut [u8]) -> Listed
+    requires { ⌜ (16 * count ≤ length (now rows)) × (count ≤ 256) ⌝ }
+    ensures { λ r. ⌜ Gives (headLine head counts ++ recordLines 0 (rowsIn count (now (rows .entry)))) (now (out .entry)) (now (out .exit)) r ⌝ }
+    ensures { λ r. ⌜ (enoughBytes ≤ length (now (out .entry)) → r .refusal ≡ 0) ⌝ }
+{
+    let mut words = [0u8; ENOUGH];
+    let length = put_run(&mut words, head, counts, rows, count);
+    give(&words[..length], out)
+}
+
+// Lists a refusal.
+fn list_refusal(number: u8, out: &mut [u8]) -> Listed
+    ensures { λ r. ⌜ Gives (refusalLine number) (now (out .entry)) (now (out .exit)) r ⌝ }
+    ensures { λ r. ⌜ (enoughBytes ≤ length (now (out .entry)) → r .refusal ≡ 0) ⌝ }
+{
+    let mut words = [0u8; 19];
+    let length = put_refusal(&mut words, number);
+    give(&words[..length], out)
+}
