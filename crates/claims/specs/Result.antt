@@ -16,10 +16,14 @@ pub record Result : Type 0 where
 abbrev pub counted : ℕ → ℕ → ℕ → ℕ → ℕ → Counts
 counted records turns blanks spins remote = record { records = records; turns = turns; blanks = blanks; spins = spins; remote = remote }
 
--- a file that is accepted is run; a refusal has its number, with all counts 0 and no record
+-- a refusal has its number, with all counts 0 and no record
+abbrev pub refusedWith : ℕ → Result
+refusedWith number = record { refusal = number; counts = counted 0 0 0 0 0; records = [] }
+
+-- a file that is accepted is run
 abbrev pub ranIf : Judgement → Result
 ranIf (accepted f) = let run = reverse (entriesOf f) in record { refusal = 0; counts = countsOf run; records = recordsOf run }
-ranIf (refusedBy number) = record { refusal = number; counts = counted 0 0 0 0 0; records = [] }
+ranIf (refusedBy number) = refusedWith number
 
 abbrev pub resultOf : List ℕ → Result
 resultOf bytes = ranIf (judgeOf bytes)

@@ -80,7 +80,7 @@ module _ {A : Type 0} where
       rw (more, append-assoc) (set-at l a (replicate m a) x (length l) refl)
 
 -- a call of the first 16 of its thread has its place, and each place its call
-call-there : (c : Call) → c .request < 16 → callAt (placeOf c) ≡ c
+pub call-there : (c : Call) → c .request < 16 → callAt (placeOf c) ≡ c
 call-there c b = ap₂ call (omega arith) (omega arith)
 
 place-there : (p : ℕ) (c : Call) → callAt p ≡ c → p ≡ placeOf c

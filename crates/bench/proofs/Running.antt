@@ -1,0 +1,137 @@
+-- What a run in place leaves gives the file's result, its records in Swap order, and so what the service promises. Assumes that the file's bytes are bytes.
+use Prim.Native.Nat.{ℕ, zero, suc, _*_, _≤_, _<_}
+use native.Mathlib.Omega.{arith}
+use mathlib.Core.Path.{_≡_, refl, ap, ap₂, _∙_}
+use mathlib.Core.Bool.{Bool, true, false, cond}
+use mathlib.Core.List.{List, [], _∷_, map, map-map, reverse}
+use lib.ListN.{length, getD, length-map, List·getD-append}
+use lib.Seq.{take-at, take-length}
+use lib.Dec.{ltb}
+use borrow.Author.Tests.{ltb-false}
+use Rattle.object.specs.declared.Kind.{Kind}
+use Rattle.object.specs.declared.Request.{Request}
+use Rattle.object.specs.Each.{Each}
+use Rattle.object.proofs.Each.{each-there, each-getD, each-map}
+use Rattle.bench_file.specs.Layout.{Fields, Judgement, accepted, refusedBy, judgeOf}
+use Rattle.bench_file.specs.Bytes.{Byte, RowInRange, InRange}
+use Rattle.bench_file.specs.Cursor.{sumOver}
+use Rattle.bench_file.proofs.RoundTrip.{accepted-in-range}
+use Rattle.claims.specs.Entries.{Entry, entriesOf, howMany}
+use Rattle.claims.specs.Terms.{Call, noCall, callOf, swapOrder, recordOf, recordsOf}
+use Rattle.claims.specs.Claims.{Holds}
+use Rattle.claims.specs.Result.{Result, refusedWith, ranIf}
+use Rattle.claims.proofs.Parts.{one-each}
+use Rattle.claims.proofs.Room.{swaps-few, requests-few}
+use Rattle.claims.proofs.Served.{map-at}
+use Rattle.claims.proofs.Theorem.{demand-3}
+use Rattle.runner.specs.declared.Played.{Played}
+use Rattle.runner.specs.Kept.{placeOf, callAt, keptOf, unkept}
+use Rattle.runner.specs.Played.{playedOf, unplayed, playedIn}
+use Rattle.runner.proofs.Tabled.{tabled-at}
+use Rattle.runner.proofs.Tables.{call-there}
+use Rattle.bench.specs.declared.Ran.{Ran}
+use Rattle.bench.specs.Records.{recordBytes, recordAt, recordsIn}
+use Rattle.bench.specs.Run.{resultIn, written}
+use Rattle.bench.specs.Promise.{answerOf, Runs}
+
+-- a request of the file is one of at most 16 of a thread of the file
+row-there : (object : Kind) (rows : List (List Request)) (t q : ℕ) → Each (RowInRange object) rows → q < length (getD rows t []) → (t < length rows) × (q < 16)
+row-there object [] t q each b = absurd (omega arith)
+row-there object (row ∷ rows) zero q each b = omega (arith, each .0 .count)
+row-there object (row ∷ rows) (suc t) q each b = omega (arith, row-there object rows t q (each .1) b)
+
+map-each : {A : Type 0} {B : Type 0} (g h : A → B) (l : List A) → Each (λ a. g a ≡ h a) l → map g l ≡ map h l
+map-each g h [] each = refl
+map-each g h (a ∷ l) each = ap₂ _∷_ (each .0) (map-each g h l (each .1))
+
+module _ (f : Fields) (fits : InRange f) where
+  abbrev run : List Entry
+  run = reverse (entriesOf f)
+
+  -- the claim after the last entry is of the whole run
+  pub whole : Holds f run (howMany 5 run) (howMany 16 run)
+  whole = rw (take-length (entriesOf f)) at (demand-3 f fits (length (entriesOf f)) .holds)
+
+  few : howMany 5 run ≤ sumOver length (f .rows)
+  few = rw (take-length (entriesOf f)) at (swaps-few f fits (length (entriesOf f)))
+
+  -- a call of Swap order has one of the 256 places
+  abbrev Placed : Call → Type 0
+  Placed c = (c .thread < 16) × (c .request < 16)
+
+  placed : Each Placed (swapOrder run)
+  placed =
+      each-there Placed noCall (swapOrder run) (λ i b.
+      let there = row-there (f .head .object) (f .rows) _ _ (fits .rows) (whole .of-the-file i (omega (arith, one-each 5 callOf run))) in
+      omega (arith, there, fits .threads, fits .head .n))
+
+  swapped : length (map placeOf (swapOrder run)) ≡ howMany 5 run
+  swapped = length-map (swapOrder run) placeOf ∙ one-each 5 callOf run
+
+  place-below : (i : ℕ) → i < howMany 5 run → getD (playedOf f .order) i 0 < 256
+  place-below i b =
+      let there : i < length (swapOrder run) = omega (arith, one-each 5 callOf run) in
+      rw (List·getD-append (map placeOf (swapOrder run)) _ 0 i (omega (arith, swapped)), map-at placeOf (swapOrder run) i noCall 0 there)
+      (omega (arith, each-getD Placed (swapOrder run) i noCall placed there))
+
+  -- what is kept at its place gives its record
+  record-there : (c : Call) → Placed c → recordAt (playedOf f .kept) (placeOf c) ≡ recordOf run c
+  record-there c b =
+      ap (recordBytes (callAt (placeOf c))) (tabled-at (λ p. keptOf run (callAt p)) 256 (placeOf c) unkept (omega arith))
+      ∙ ap (λ (c : Call). recordBytes c (keptOf run c)) (call-there c (b .1))
+
+  records-there : recordsIn (howMany 5 run) (playedOf f .kept) (playedOf f .order) ≡ recordsOf run
+  records-there =
+      ap (map (recordAt (playedOf f .kept))) (take-at (map placeOf (swapOrder run)) _ (howMany 5 run) swapped)
+      ∙ map-map (recordAt (playedOf f .kept)) placeOf (swapOrder run)
+      ∙ map-each _ (recordOf run) (swapOrder run) (each-map record-there (swapOrder run) placed)
+
+-- the answer and the records of what was played
+abbrev ranBy : Played → Ran
+ranBy p = record { refusal = p .refusal; counts = p .counts }
+
+abbrev recordsBy : Played → List (List ℕ)
+recordsBy p = recordsIn (p .counts .records) (p .kept) (p .order)
+
+-- they are the result's; and the records, with so many bytes lent, can be laid
+pub record Shows (lent : ℕ) (p : Played) (result : Result) : Type 0 where
+  pub answer : ranBy p ≡ answerOf result
+  pub records : recordsBy p ≡ result .records
+  pub few : p .counts .records ≤ 256
+  pub room : 16 * p .counts .records ≤ lent
+  pub places : (i : ℕ) → i < p .counts .records → getD (p .order) i 0 < 256
+
+module _ (lent : ℕ) where
+  refused-shows : (number : ℕ) → Shows lent (unplayed number) (refusedWith number)
+  refused-shows number = record { answer = refl; records = refl; few = omega arith; room = omega arith; places = λ i b. absurd (omega arith) }
+
+  run-shows : (f : Fields) → InRange f → 16 * sumOver length (f .rows) ≤ lent → Shows lent (playedOf f) (ranIf (accepted f))
+  run-shows f fits room = record {
+    answer = refl;
+    records = records-there f fits;
+    few = omega (arith, few f fits, requests-few f fits);
+    room = omega (arith, few f fits);
+    places = place-below f fits;
+  }
+
+  shows : (j : Judgement) → ((f : Fields) → j ≡ accepted f → InRange f) → Shows lent (playedIn lent j) (resultIn lent j)
+  shows (refusedBy number) fits = refused-shows number
+  shows (accepted f) fits = by-test (ltb lent (16 * sumOver length (f .rows))) (ltb-false _ _)
+    where
+      by-test : (short : Bool) → (short ≡ false → 16 * sumOver length (f .rows) ≤ lent)
+          → Shows lent (cond short (unplayed 13) (playedOf f)) (cond short (refusedWith 13) (ranIf (accepted f)))
+      by-test true enough = refused-shows 13
+      by-test false enough = run-shows f (fits f refl) (enough refl)
+
+-- the service: what was played gives its answer, and its records the buffer
+module _ (bytes old : List ℕ) (p : Played) (each : Each Byte bytes) (is : p ≡ playedIn (length old) (judgeOf bytes)) where
+  pub played-shows : Shows (length old) p (resultIn (length old) (judgeOf bytes))
+  played-shows = rw is (shows (length old) (judgeOf bytes) (λ f e. accepted-in-range bytes f each e))
+
+  pub runs : (new : List ℕ) → new ≡ written old (recordsBy p) → Runs bytes old new (ranBy p)
+  runs new laid = record {
+    answer = played-shows .answer;
+    buffer = laid ∙ ap (written old) (played-shows .records);
+    demand-3 = λ f e. demand-3 f (accepted-in-range bytes f each e);
+    whole = λ f e. whole f (accepted-in-range bytes f each e);
+  }

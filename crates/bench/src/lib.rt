@@ -1,0 +1,94 @@
+// Runs a bench file: its counts and the records of its calls, in Swap order, in a lent buffer.
+use runner::Kept;
+use state::Counts;
+ghost use Prim.Native.Nat.{ℕ, _*_, _≤_, _<_};
+ghost use mathlib.Core.Path.{_≡_};
+ghost use lib.ListN.{length, getD};
+ghost use Rattle.bench_file.specs.Bytes.{lowFirst};
+ghost use Rattle.step.specs.Entry.{oneIf};
+ghost use Rattle.runner.specs.Kept.{callAt};
+ghost use Rattle.bench.specs.Promise.{Runs};
+ghost use Rattle.bench.specs.Records.{recordBytes, recordsIn};
+ghost use Rattle.bench.specs.Run.{written};
+
+// Refusal 0 with the five counts, or a refusal's number with all counts 0.
+pub struct Ran {
+    pub refusal: u8,
+    pub counts: Counts,
+}
+
+// A number as four bytes, the lowest first.
+fn low_first(number: u32) -> [u8; 4]
+    ensures { λ r. ⌜ r ≡ lowFirst 4 number ⌝ }
+{
+    [
+        (number % 256) as u8,
+        (number / 256 % 256) as u8,
+        (number / 256 / 256 % 256) as u8,
+        (number / 256 / 256 / 256 % 256) as u8,
+    ]
+}
+
+// Byte 12 of a record.
+fn returned_byte(returned: bool) -> u8
+    ensures { λ r. ⌜ r ≡ oneIf returned ⌝ }
+{
+    if returned { 1 } else { 0 }
+}
+
+// The record of the call that has a place.
+fn record_bytes(place: u16, kept: Kept) -> [u8; 16]
+    requires { ⌜ place < 256 ⌝ }
+    ensures { λ r. ⌜ r ≡ recordBytes (callAt place) kept ⌝ }
+{
+    let value = low_first(kept.value);
+    let remote = low_first(kept.remote);
+    let returned = returned_byte(kept.returned);
+    let turn = low_first(kept.turn as u32);
+    [
+        (place / 16) as u8,
+        (place % 16) as u8,
+        kept.mark,
+        kept.server,
+        value[0],
+        value[1],
+        value[2],
+        value[3],
+        remote[0],
+        remote[1],
+        remote[2],
+        remote[3],
+        returned,
+        turn[0],
+        turn[1],
+        0,
+    ]
+}
+
+// So many records, in Swap order, from the buffer's first byte on.
+fn put_records(out: &mut [u8], count: usize, kept: [Kept; 256], order: [u16; 256])
+    requires { ⌜ (count ≤ 256) × (16 * count ≤ length (now out)) ⌝ }
+    requires { ⌜ ((i : ℕ) → i < count → getD order i 0 < 256) ⌝ }
+    ensures { λ _. ⌜ now (out .exit) ≡ written (now (out .entry)) (recordsIn count kept order) ⌝ }
+{
+    let mut i = 0usize;
+    while i < count {
+        let place = order[i];
+        let record = record_bytes(place, kept[place as usize]);
+        bytes::copy(&record, &mut out[16 * i..]);
+        i += 1;
+    }
+}
+
+// Runs any bytes as a bench file. The records stand in Swap order from the buffer's first byte on; a refusal has none.
+pub fn run(file: &[u8], out: &mut [u8]) -> Ran
+    ensures { λ r. ⌜ Runs (now (file .entry)) (now (out .entry)) (now (out .exit)) r ⌝ }
+{
+    let played = runner::play(file, out.len());
+    let refusal = played.refusal;
+    let counts = played.counts;
+    let kept = played.kept;
+    let order = played.order;
+    put_records(out, counts.records as usize, kept, order);
+    Ran { refusal, counts }
+}
