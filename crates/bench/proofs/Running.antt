@@ -52,7 +52,7 @@ module _ (f : Fields) (fits : InRange f) where
   pub whole : Holds f run (howMany 5 run) (howMany 16 run)
   whole = rw (take-length (entriesOf f)) at (demand-3 f fits (length (entriesOf f)) .holds)
 
-  few : howMany 5 run ≤ sumOver length (f .rows)
+  pub few : howMany 5 run ≤ sumOver length (f .rows)
   few = rw (take-length (entriesOf f)) at (swaps-few f fits (length (entriesOf f)))
 
   -- a call of Swap order has one of the 256 places

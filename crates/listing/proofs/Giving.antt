@@ -2,11 +2,13 @@
 use Prim.Native.Nat.{ℕ, _+_, _≤_, _<_}
 use native.Mathlib.Nat.{zero-add}
 use native.Mathlib.Omega.{arith}
-use mathlib.Core.Path.{_≡_, ap, _∙_}
+use mathlib.Core.Path.{_≡_, refl, ap, _∙_}
+use mathlib.Core.Bool.{Bool, true, false, cond}
 use mathlib.Core.List.{List}
 use lib.ListN.{length, take, drop}
 use lib.Seq.{take-at}
-use borrow.Author.Tests.{le-leb, lt-leb}
+use lib.Dec.{leb}
+use borrow.Author.Tests.{le-leb, lt-leb, leb-true}
 use Rattle.bench_file.specs.Layout.{judgeOf}
 use Rattle.listing.specs.declared.Listed.{Listed}
 use Rattle.listing.specs.Listing.{listingOf}
@@ -38,6 +40,14 @@ module _ {old words new : List ℕ} {next : ℕ} (l : Laid old 0 words new next)
       let g′ : Gives words out after r = rw front at g in
       (g′, λ room. ap (λ (a : Listed). a .refusal) (g′ .answer) ∙ rw (le-leb (length words) (length out) (omega (arith, as-long))))
 
+-- what is given lies within the buffer
+inside : {words old new : List ℕ} {r : Listed} → Gives words old new r → r .length ≤ length old
+inside {words} {old} {r = r} g = rw (g .answer) (by-test (leb (length words) (length old)) (leb-true _ _))
+  where
+    by-test : (b : Bool) → (b ≡ true → length words ≤ length old) → cond {A = Listed} b (record { refusal = 0; length = length words }) (record { refusal = 13; length = 0 }) .length ≤ length old
+    by-test true h = h refl
+    by-test false h = omega arith
+
 -- what is given of a file's listing is promised
 pub lists : (bytes : List ℕ) {words old new : List ℕ} {r : Listed} → words ≡ listingOf (judgeOf bytes) → Gives words old new r × (enoughBytes ≤ length old → r .refusal ≡ 0) → Lists bytes old new r
-lists bytes e (g, enough) = record { gives = rw (← e) g; enough = enough }
+lists bytes e (g, enough) = record { gives = rw (← e) g; enough = enough; inside = inside g }

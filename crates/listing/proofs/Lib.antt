@@ -4,3 +4,4 @@ pub mod Giving
 pub mod Laid
 pub mod Records
 pub mod Rows
+pub mod Service

@@ -1,11 +1,12 @@
 -- The records of a run as bytes: 16 each, read back from a buffer; and a record's line shows its call. Assumes nothing.
 use Prim.Native.Nat.{ℕ, _^_, _<_}
 use mathlib.Core.Path.{_≡_, refl, _∙_}
-use mathlib.Core.List.{List, [], _∷_, _++_, map, reverse, append-assoc}
+use mathlib.Core.List.{List, [], _∷_, _++_, reverse, append-assoc}
 use lib.ListN.{length}
 use lib.Seq.{take-at, drop-at}
 use Rattle.object.specs.declared.Answer.the-variants.{Done, Value, Empty, Full}
 use Rattle.object.specs.Each.{Each}
+use Rattle.object.proofs.Each.{each-map}
 use Rattle.bench_file.specs.Reading.{littleEndian}
 use Rattle.bench_file.specs.Layout.{Fields, accepted}
 use Rattle.bench_file.specs.Bytes.{lowFirst, eachBytes}
@@ -14,7 +15,8 @@ use Rattle.machine.specs.declared.RetVal.{RetVal}
 use Rattle.machine.specs.declared.RetVal.the-variants.{NoAnswer, Answered}
 use Rattle.step.specs.Entry.{oneIf}
 use Rattle.claims.specs.Entries.{Entry, entriesOf}
-use Rattle.claims.specs.Terms.{Call, Shown, shownOf, servings, costOf, returned, retMark, retValue, swapOrder, recordOf, recordsOf, countsOf}
+use Rattle.claims.specs.Terms.{Call, Shown, shownOf, servings, costOf, returned, retMark, retValue, recordOf, recordsOf, countsOf}
+use Rattle.claims.specs.Claims.{SixteenBytes}
 use Rattle.listing.specs.Listing.{headLine, retOf, callLine, recordLine, recordLines, listingOf}
 use Rattle.listing.specs.Laid.{rowsIn}
 
@@ -30,22 +32,16 @@ rows-back (row ∷ rows) rest p =
       rows-back rows rest (p .1),
     )
 
--- a record has 16 bytes
-pub record-sizes : (run : List Entry) (calls : List Call) → Each (λ row. length row ≡ 16) (map (recordOf run) calls)
-unfolding lowFirst
-record-sizes run [] = tt
-record-sizes run (c ∷ calls) = (refl, record-sizes run calls)
-
 -- the head line and the lines of the records in a buffer are the listing of the file
 pub listing-of-run
     : (f : Fields) (rest : List ℕ) (count : ℕ)
     → let run = reverse (entriesOf f) in
-    count ≡ length (recordsOf run)
+    Each SixteenBytes (recordsOf run) → count ≡ length (recordsOf run)
     → headLine (f .head) (countsOf run) ++ recordLines 0 (rowsIn count (eachBytes (λ row. row) (recordsOf run) ++ rest)) ≡ listingOf (accepted f)
 unfolding listingOf
-listing-of-run f rest count e =
+listing-of-run f rest count sizes e =
     let run = reverse (entriesOf f) in
-    rw (e, rows-back (recordsOf run) rest (record-sizes run (swapOrder run)))
+    rw (e, rows-back (recordsOf run) rest (each-map (λ row size. size .0) (recordsOf run) sizes))
 
 -- mark and value stand for the response that they were written for
 pub ret-back : (ret : RetVal) → retOf (retMark ret) (retValue ret) ≡ ret

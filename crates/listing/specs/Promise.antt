@@ -31,3 +31,4 @@ enoughBytes = headMost + 256 * lineMost
 pub record Lists (bytes old new : List ℕ) (r : Listed) : Type 0 where
   pub gives : Gives (listingOf (judgeOf bytes)) old new r
   pub enough : enoughBytes ≤ length old → r .refusal ≡ 0
+  pub inside : r .length ≤ length old

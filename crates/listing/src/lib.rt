@@ -1,5 +1,6 @@
 // The listing of a file's run, as text.
 use bench_file::Head;
+use bench_file::Judged;
 use machine::RetVal;
 use object::Answer;
 use object::Kind;
@@ -11,7 +12,7 @@ ghost use lib.ListN.{length};
 ghost use Rattle.listing.specs.Text.{text, digit, decimal, lineEnd};
 ghost use Rattle.listing.specs.Listing.{kindWord, countWords, headLine, retOf, answerWord, markWord, valueWord, servedWord, endWord, servingWords, byteAt, numberAt, recordLine, recordLines, refusalLine};
 ghost use Rattle.listing.specs.Laid.{Laid, rowsIn, headMost, lineMost};
-ghost use Rattle.listing.specs.Promise.{Gives, enoughBytes};
+ghost use Rattle.listing.specs.Promise.{Gives, Lists, enoughBytes};
 
 // The listing of a file: refusal 0 and its length, or 13 with the buffer as it was.
 pub struct Listed {
@@ -292,4 +293,21 @@ fn list_refusal(number: u8, out: &mut [u8]) -> Listed
     let mut words = [0u8; 19];
     let length = put_refusal(&mut words, number);
     give(&words[..length], out)
+}
+
+// Lists any bytes as a bench file: its refusal, or its run with a line for each record.
+pub fn list(file: &[u8], out: &mut [u8]) -> Listed
+    ensures { λ r. ⌜ Lists (now (file .entry)) (now (out .entry)) (now (out .exit)) r ⌝ }
+{
+    let mut rows = [0u8; 4096];
+    let ran = bench::run(file, &mut rows);
+    let counts = ran.counts;
+    match bench_file::judge(file) {
+        Judged::Accepted {
+            head,
+            requests: _,
+            entries: _,
+        } => list_run(head, counts, &rows, counts.records as usize, out),
+        Judged::Refused(number) => list_refusal(number, out),
+    }
 }

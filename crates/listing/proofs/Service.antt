@@ -1,0 +1,66 @@
+-- The run's answer and the records in its buffer give the listing of an accepted file. Assumes fields in range.
+use Prim.Native.Nat.{ℕ, _*_, _≤_}
+use native.Mathlib.Omega.{arith}
+use mathlib.Core.Path.{_≡_, sym, ap, subst, _∙_}
+use mathlib.Core.List.{List, _++_, reverse}
+use lib.ListN.{length, drop, replicate}
+use borrow.Author.Tests.{le-ltb}
+use Rattle.bench_file.specs.declared.Head.{Head}
+use Rattle.bench_file.specs.declared.Judged.{Judged}
+use Rattle.bench_file.specs.declared.Judged.the-variants as Judged
+use Rattle.bench_file.specs.Layout.{Fields, Judgement, accepted, refusedBy, judgeOf}
+use Rattle.bench_file.specs.Promise.{Judges, judgedAs}
+use Rattle.bench_file.specs.Bytes.{InRange, eachBytes}
+use Rattle.bench_file.specs.Cursor.{sumOver}
+use Rattle.state.specs.declared.Counts.{Counts}
+use Rattle.claims.specs.Entries.{Entry, entriesOf}
+use Rattle.claims.specs.Terms.{recordsOf, countsOf}
+use Rattle.claims.specs.Result.{Result, ranIf}
+use Rattle.claims.proofs.Room.{requests-few}
+use Rattle.loader.proofs.Answer.{accepted-fields}
+use Rattle.bench.specs.declared.Ran.{Ran}
+use Rattle.bench.specs.Run.{resultIn, written}
+use Rattle.bench.specs.Promise.{Runs}
+use Rattle.bench.proofs.Running.{few}
+use Rattle.listing.specs.Listing.{headLine, recordLines, refusalLine, listingOf}
+use Rattle.listing.specs.Laid.{rowsIn}
+use Rattle.listing.proofs.Records.{listing-of-run}
+
+module _ {bytes rows : List ℕ} {ran : Ran} (runs : Runs bytes (replicate 4096 0) rows ran) (f : Fields) (fits : InRange f) (judged : judgeOf bytes ≡ accepted f) where
+  abbrev run : List Entry
+  run = reverse (entriesOf f)
+
+  -- 4,096 bytes are enough
+  result : resultIn 4096 (judgeOf bytes) ≡ ranIf (accepted f)
+  result = rw (judged, le-ltb 4096 (16 * sumOver length (f .rows)) (omega (arith, requests-few f fits)))
+
+  counted : ran .counts ≡ countsOf run
+  counted = ap (λ (r : Ran). r .counts) (runs .answer) ∙ ap (λ (r : Result). r .counts) result
+
+  as-many : ran .counts .records ≡ length (recordsOf run)
+  as-many = ap (λ (c : Counts). c .records) counted ∙ sym (runs .whole f judged .records)
+
+  records-few : ran .counts .records ≤ 256
+  records-few = omega (arith, ap (λ (c : Counts). c .records) counted, few f fits, requests-few f fits)
+
+  run-listed : headLine (f .head) (ran .counts) ++ recordLines 0 (rowsIn (ran .counts .records) rows) ≡ listingOf (judgeOf bytes)
+  run-listed =
+      let laid : rows ≡ written (replicate 4096 0) (recordsOf run) = runs .buffer ∙ ap (λ (r : Result). written (replicate 4096 0) (r .records)) result in
+      rw (judged, laid, counted) (listing-of-run f _ _ (runs .whole f judged .bytes) (ap (λ (c : Counts). c .records) (sym counted) ∙ as-many))
+
+-- what the listing of an accepted file is made of
+pub record Listable (bytes rows : List ℕ) (ran : Ran) (head : Head) : Type 0 where
+  pub most : ran .counts .records ≤ 256
+  pub words : headLine head (ran .counts) ++ recordLines 0 (rowsIn (ran .counts .records) rows) ≡ listingOf (judgeOf bytes)
+
+pub listable : {bytes rows : List ℕ} {ran : Ran} {r : Judged} {head : Head} {requests entries : ℕ} → Runs bytes (replicate 4096 0) rows ran → Judges bytes r → r ≡ Judged.Accepted head requests entries
+    → Listable bytes rows ran head
+listable {bytes = bytes} {rows = rows} {ran = ran} runs judges is =
+    let (f, judged, same) = accepted-fields (judgeOf bytes) (sym is ∙ judges .answer) in
+    let fits = judges .exactly f .0 judged .0 in
+    subst (Listable bytes rows ran) same (record { most = records-few runs f fits judged; words = run-listed runs f fits judged })
+
+pub refusal-listed : (j : Judgement) {number : ℕ} → Judged.Refused number ≡ judgedAs j → refusalLine number ≡ listingOf j
+unfolding listingOf
+refusal-listed (accepted f) e = let z : _≡_ {A = ℕ} 0 1 = cc in absurd (omega arith)
+refusal-listed (refusedBy number) e = ap refusalLine cc
