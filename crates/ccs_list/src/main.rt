@@ -2,8 +2,7 @@
 use libc::STDIN_FILENO;
 use libc::STDOUT_FILENO;
 
-// The first bytes of an input, which decide how it is judged: a file that is accepted has at most 34,075, and whatever follows 34,076 is
-// judged as they are (`judged-by-prefix` in bench_file/proofs/Prefix.antt).
+// So many bytes decide the listing of an input: an accepted file has at most 34,075 (`listed-by-prefix` in proofs/Deciding.antt).
 const DECIDING: usize = 34076;
 
 fn main() {
