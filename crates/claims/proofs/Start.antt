@@ -4,7 +4,7 @@ use native.Mathlib.Omega.{arith}
 use native.Mathlib.Nat.{zero-add}
 use mathlib.Core.Path.{_≡_, refl, ap, _∙_}
 use mathlib.Core.Bool.{true, or-true}
-use mathlib.Core.List.{List, [], _∷_, _++_, map}
+use mathlib.Core.List.{List, [], _∷_, map}
 use lib.Dec.{leb, leb·zero}
 use lib.ListN.{length, getD, take, drop, length-append, getD-replicate, length-map, List·getD-append, List·getD-map}
 use lib.Seq.{getD-drop, getD-append-add}

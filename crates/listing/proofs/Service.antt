@@ -3,14 +3,14 @@ use Prim.Native.Nat.{ℕ, _*_, _≤_}
 use native.Mathlib.Omega.{arith}
 use mathlib.Core.Path.{_≡_, sym, ap, subst, _∙_}
 use mathlib.Core.List.{List, _++_, reverse}
-use lib.ListN.{length, drop, replicate}
+use lib.ListN.{length, replicate}
 use borrow.Author.Tests.{le-ltb}
 use Rattle.bench_file.specs.declared.Head.{Head}
 use Rattle.bench_file.specs.declared.Judged.{Judged}
 use Rattle.bench_file.specs.declared.Judged.the-variants as Judged
 use Rattle.bench_file.specs.Layout.{Fields, Judgement, accepted, refusedBy, judgeOf}
 use Rattle.bench_file.specs.Promise.{Judges, judgedAs}
-use Rattle.bench_file.specs.Bytes.{InRange, eachBytes}
+use Rattle.bench_file.specs.Bytes.{InRange}
 use Rattle.bench_file.specs.Cursor.{sumOver}
 use Rattle.state.specs.declared.Counts.{Counts}
 use Rattle.claims.specs.Entries.{Entry, entriesOf}

@@ -1,13 +1,13 @@
 -- What the loop of a run keeps: the invariant of the file's run, what the arrays say of the entries so far, and that the rest of the schedule ends the run.
 -- Assumes fields in range.
-use Prim.Native.Nat.{ℕ, suc, _+_, _-_, _*_, _%_, _≤_, _<_}
+use Prim.Native.Nat.{ℕ, _+_, _-_, _*_, _%_, _≤_, _<_}
 use native.Mathlib.Numerals.{add-one}
 use native.Mathlib.Omega.{arith}
-use mathlib.Core.Path.{_≡_, refl, sym, ap, subst, _∙_}
+use mathlib.Core.Path.{_≡_, refl, sym, ap, _∙_}
 use mathlib.Core.Bool.{true, false, cond}
 use mathlib.Core.List.{List, [], _∷_, map, reverse, reverseAux}
 use lib.ListN.{length, getD, set, drop, replicate, drop-of-length-le}
-use lib.Seq.{drop-cons, take-length}
+use lib.Seq.{drop-cons}
 use lib.Dec.{eqb}
 use borrow.Author.Tests.{eq-eqb, ne-eqb}
 use Rattle.object.specs.Each.{Each}
@@ -38,7 +38,7 @@ use Rattle.invariant.proofs.Bridge.{number-line}
 use Rattle.claims.specs.Entries.{Entry, entryOf, startOf, entriesFrom, stateAfter, entriesOf, howMany}
 use Rattle.claims.proofs.Counted.{next-fits}
 use Rattle.claims.proofs.Layers.{Layers, stays, layers-next}
-use Rattle.claims.proofs.Room.{swaps-few, requests-few}
+use Rattle.claims.proofs.Room.{all-swaps-few}
 use Rattle.claims.proofs.Run.{Going, going-next}
 use Rattle.claims.proofs.Theorem.{run-layers}
 use Rattle.runner.specs.declared.Kept.{Kept}
@@ -123,8 +123,7 @@ module _ (f : Fields) (bytes : List ℕ) (fits : InRange f) where
     room swap =
         let counted : s .counts .records ≡ howMany 5 (x .past) = ap (λ (c : Counts). c .records) (x .going .counted .counts) in
         let one : howMany 5 (entryOf s t ∷ x .past) ≡ 1 + howMany 5 (x .past) = rw (eq-eqb (line s t) 5 swap) in
-        let all = rw (take-length (entriesOf f)) at (swaps-few f fits (length (entriesOf f))) in
-        omega (arith, rw ends-next at (more-swaps (entriesFrom (entered s t) (drop (i + 1) bytes)) (entryOf s t ∷ x .past)), all, requests-few f fits)
+        omega (arith, rw ends-next at (more-swaps (entriesFrom (entered s t) (drop (i + 1) bytes)) (entryOf s t ∷ x .past)), all-swaps-few f fits)
 
     -- what the loop's own calls answered for the entry, and what the notes left in the arrays
     pub record Booked (d : Kept) (k : ℕ) (m : NodeId) (answer : Answer) (e : Effect) (remote call served : ℕ) (order′ given′ turns′ : List ℕ) (mine theirs : Kept) : Type 0 where

@@ -13,7 +13,6 @@ use Rattle.state.specs.declared.State.{State}
 use Rattle.claims.specs.Entries.{Entry, filled, startOf, entriesOf}
 use Rattle.claims.specs.Terms.{swapOrder, countsOf}
 use Rattle.claims.specs.Result.{counted}
-use Rattle.runner.specs.declared.Kept.{Kept}
 use Rattle.runner.specs.declared.Played.{Played}
 use Rattle.runner.specs.Kept.{placeOf, callAt, keptOf, unkept}
 

@@ -1,5 +1,5 @@
 // A bench file's run from its fresh machine, in place: one local state stepped entry by entry, and what a record needs kept of each call.
-ghost use Prim.Native.Nat.{_+_, _%_, _≤_, _<_};
+ghost use Prim.Native.Nat.{_%_, _<_};
 ghost use mathlib.Core.Path.{_≡_};
 ghost use mathlib.Core.Bool.{cond};
 ghost use lib.ListN.{getD, set};
