@@ -16,12 +16,11 @@ use Rattle.state.specs.declared.Counts.{Counts}
 use Rattle.claims.specs.Entries.{Entry, entriesOf}
 use Rattle.claims.specs.Terms.{recordsOf, countsOf}
 use Rattle.claims.specs.Result.{Result, ranIf}
-use Rattle.claims.proofs.Room.{requests-few}
+use Rattle.claims.proofs.Room.{requests-few, all-swaps-few}
 use Rattle.loader.proofs.Answer.{accepted-fields}
 use Rattle.bench.specs.declared.Ran.{Ran}
 use Rattle.bench.specs.Run.{resultIn, written}
 use Rattle.bench.specs.Promise.{Runs}
-use Rattle.bench.proofs.Running.{few}
 use Rattle.listing.specs.Listing.{headLine, recordLines, refusalLine, listingOf}
 use Rattle.listing.specs.Laid.{rowsIn}
 use Rattle.listing.proofs.Records.{listing-of-run}
@@ -41,7 +40,7 @@ module _ {bytes rows : List ℕ} {ran : Ran} (runs : Runs bytes (replicate 4096 
   as-many = ap (λ (c : Counts). c .records) counted ∙ sym (runs .whole f judged .records)
 
   records-few : ran .counts .records ≤ 256
-  records-few = omega (arith, ap (λ (c : Counts). c .records) counted, few f fits, requests-few f fits)
+  records-few = omega (arith, ap (λ (c : Counts). c .records) counted, all-swaps-few f fits)
 
   run-listed : headLine (f .head) (ran .counts) ++ recordLines 0 (rowsIn (ran .counts .records) rows) ≡ listingOf (judgeOf bytes)
   run-listed =
