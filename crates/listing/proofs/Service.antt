@@ -8,7 +8,7 @@ use borrow.Author.Tests.{le-ltb}
 use Rattle.bench_file.specs.declared.Head.{Head}
 use Rattle.bench_file.specs.declared.Judged.{Judged}
 use Rattle.bench_file.specs.declared.Judged.the-variants as Judged
-use Rattle.bench_file.specs.Layout.{Fields, Judgement, accepted, refusedBy, judgeOf}
+use Rattle.bench_file.specs.Layout.{Fields, Judgement, accepted, judgeOf}
 use Rattle.bench_file.specs.Promise.{Judges, judgedAs}
 use Rattle.bench_file.specs.Bytes.{InRange}
 use Rattle.bench_file.specs.Cursor.{sumOver}
@@ -17,7 +17,7 @@ use Rattle.claims.specs.Entries.{Entry, entriesOf}
 use Rattle.claims.specs.Terms.{recordsOf, countsOf}
 use Rattle.claims.specs.Result.{Result, ranIf}
 use Rattle.claims.proofs.Room.{requests-few, all-swaps-few}
-use Rattle.loader.proofs.Answer.{accepted-fields}
+use Rattle.loader.proofs.Answer.{accepted-fields, refused-number}
 use Rattle.bench.specs.declared.Ran.{Ran}
 use Rattle.bench.specs.Run.{resultIn, written}
 use Rattle.bench.specs.Promise.{Runs}
@@ -61,5 +61,4 @@ listable {bytes = bytes} {rows = rows} {ran = ran} runs judges is =
 
 pub refusal-listed : (j : Judgement) {number : ℕ} → Judged.Refused number ≡ judgedAs j → refusalLine number ≡ listingOf j
 unfolding listingOf
-refusal-listed (accepted f) e = let z : _≡_ {A = ℕ} 0 1 = cc in absurd (omega arith)
-refusal-listed (refusedBy number) e = ap refusalLine cc
+refusal-listed j e = rw (refused-number j e)
