@@ -37,7 +37,7 @@ tabled value from zero = []
 tabled value from (suc k) = value from ∷ tabled value (from + 1) k
 
 -- what is left after all entries of a file
-abbrev pub playedBy : List Entry → Played
+abbrev playedBy : List Entry → Played
 playedBy run = record {
   refusal = 0;
   counts = countsOf run;
