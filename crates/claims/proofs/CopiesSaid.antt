@@ -20,7 +20,7 @@ use Rattle.step.specs.Entry.{line, target, accesses, entered}
 use Rattle.step.proofs.Numbers.{each-line}
 use Rattle.step.proofs.Outcome.{target-in-range}
 use Rattle.step.proofs.Soundness.{Sound}
-use Rattle.claims.proofs.Start.{padded}
+use Rattle.claims.proofs.Filled.{padded}
 use Rattle.claims.specs.Entries.{Entry, entryOf, remoteMarks, writing, decides, validCopy}
 
 -- each of n threads has the copies that the entries so far give it

@@ -47,7 +47,8 @@ use Rattle.claims.proofs.CopiesSaid.{CopiesSaid, copies-kept, remote-sa
 use Rattle.claims.proofs.Goes.{goes, count-kept}
 use Rattle.claims.proofs.History.{Happens, Swaps, Turns, Calls}
 use Rattle.claims.proofs.Run.{Going, request-going}
-use Rattle.claims.proofs.Served.{map-at, applied as all-served}
+use Rattle.claims.proofs.Places.{map-at}
+use Rattle.claims.proofs.Served.{applied as all-served}
 use Rattle.claims.proofs.Swaps.{of-last, serves-next, swaps-kept}
 use Rattle.claims.proofs.Told.{tells-of}
 use Rattle.claims.proofs.Turns.{turns-kept, applies-combining}

@@ -3,12 +3,14 @@ pub mod Calls
 pub mod CopiesSaid
 pub mod Counted
 pub mod Cut
+pub mod Filled
 pub mod Goes
 pub mod History
 pub mod Layers
 pub mod Marked
 pub mod OfCall
 pub mod Parts
+pub mod Places
 pub mod Room
 pub mod Run
 pub mod Served

@@ -28,7 +28,8 @@ use Rattle.claims.proofs.Counted.{cost-fits, tests-few}
 use Rattle.claims.proofs.History.{Settled}
 use Rattle.claims.proofs.Layers.{Layers, jobsOf, answersOf}
 use Rattle.claims.proofs.Run.{Going}
-use Rattle.claims.proofs.Served.{map-at, record-at, record-shows, named, applied, shown-at, unserved}
+use Rattle.claims.proofs.Places.{map-at}
+use Rattle.claims.proofs.Served.{record-at, record-shows, named, applied, shown-at, unserved}
 use Rattle.claims.proofs.Swaps.{length-more}
 use Rattle.claims.proofs.Turns.{one-combiner}
 

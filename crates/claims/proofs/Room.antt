@@ -3,17 +3,18 @@ use Prim.Native.Nat.{ℕ, zero, suc, _+_, _-_, _*_, _≤_, _<_, min, max}
 use native.Mathlib.Omega.{arith}
 use mathlib.Core.Path.{_≡_, refl, ap₂}
 use mathlib.Core.List.{List, [], _∷_, reverse}
-use lib.ListN.{length, getD, take}
+use lib.ListN.{length, getD}
 use Rattle.object.specs.declared.Kind.{Kind}
 use Rattle.object.specs.declared.Request.{Request}
 use Rattle.object.specs.Each.{Each}
 use Rattle.bench_file.specs.Layout.{Fields}
 use Rattle.bench_file.specs.Bytes.{RowInRange, InRange}
 use Rattle.bench_file.specs.Cursor.{sumOver}
-use Rattle.claims.specs.Entries.{entriesOf, howMany}
+use Rattle.claims.specs.Entries.{Entry, entriesOf, howMany}
 use Rattle.claims.specs.Terms.{swapAt}
+use Rattle.claims.specs.Claims.{Holds}
 use Rattle.claims.proofs.OfCall.{call}
-use Rattle.claims.proofs.Theorem.{demand-3}
+use Rattle.claims.proofs.Theorem.{holds-whole}
 
 -- the place of p is closed: what is below it goes up by one
 abbrev closed : ℕ → ℕ → ℕ
@@ -54,14 +55,12 @@ number-apart (row ∷ rows) (suc t) zero q r b c e = absurd (omega arith)
 number-apart (row ∷ rows) (suc t) (suc u) q r b c e = omega (arith, number-apart rows t u q r b c (omega arith))
 
 -- each Swap is of a call of its own, and that is one of the file's
-pub swaps-few : (f : Fields) → InRange f → (j : ℕ) → howMany 5 (reverse (take j (entriesOf f))) ≤ sumOver length (f .rows)
-swaps-few f fits j =
-    let run = reverse (take j (entriesOf f)) in
-    let claim = demand-3 f fits j .holds in
+swaps-few : (f : Fields) {run : List Entry} {s a : ℕ} → Holds f run s a → s ≤ sumOver length (f .rows)
+swaps-few f {run} {s} claim =
     let there = claim .of-the-file in
     omega (
       arith,
-      different-few (howMany 5 run) 0 (sumOver length (f .rows)) (λ i. callNumber (f .rows) (swapAt run i .thread) (swapAt run i .request))
+      different-few s 0 (sumOver length (f .rows)) (λ i. callNumber (f .rows) (swapAt run i .thread) (swapAt run i .request))
           (λ i b. (omega arith, number-below (f .rows) _ _ (there i b)))
           (λ i k b c e. claim .distinct i k b c (let same = number-apart (f .rows) _ _ _ _ (there i (omega arith)) (there k c) e in ap₂ call (same .0) (same .1))),
     )
@@ -73,3 +72,11 @@ rows-few object (row ∷ rows) each = omega (arith, each .0 .count, rows-few obj
 
 pub requests-few : (f : Fields) → InRange f → sumOver length (f .rows) ≤ 256
 requests-few f fits = omega (arith, rows-few (f .head .object) (f .rows) (fits .rows), fits .threads, fits .head .n)
+
+-- the Swaps of the whole run
+module _ (f : Fields) (fits : InRange f) where
+  pub all-swaps-asked : howMany 5 (reverse (entriesOf f)) ≤ sumOver length (f .rows)
+  all-swaps-asked = swaps-few f (holds-whole f fits)
+
+  pub all-swaps-few : howMany 5 (reverse (entriesOf f)) ≤ 256
+  all-swaps-few = omega (arith, all-swaps-asked, requests-few f fits)

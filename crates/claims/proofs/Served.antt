@@ -15,12 +15,7 @@ use Rattle.claims.specs.Terms.{Call, Serving, Shown, same, noCall, swapO
 use Rattle.claims.specs.Claims.{HasAnswer}
 use Rattle.claims.proofs.History.{Swaps}
 use Rattle.claims.proofs.OfCall.{same-itself, not-same}
-
--- within a list what stands for the places past it doesn't matter
-pub map-at : {A B : Type 0} (f : A → B) (l : List A) (i : ℕ) (a : A) (b : B) → i < length l → getD (map f l) i b ≡ f (getD l i a)
-map-at f [] i a b k = absurd (omega arith)
-map-at f (x ∷ l) zero a b k = refl
-map-at f (x ∷ l) (suc i) a b k = map-at f l i a b (omega arith)
+use Rattle.claims.proofs.Places.{map-at}
 
 abbrev callServed : Serving → Call
 callServed w = w .call

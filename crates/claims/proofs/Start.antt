@@ -4,9 +4,9 @@ use native.Mathlib.Omega.{arith}
 use native.Mathlib.Nat.{zero-add}
 use mathlib.Core.Path.{_≡_, refl, ap, _∙_}
 use mathlib.Core.Bool.{true, or-true}
-use mathlib.Core.List.{List, [], _∷_, _++_, map}
+use mathlib.Core.List.{List, [], _∷_, map}
 use lib.Dec.{leb, leb·zero}
-use lib.ListN.{length, getD, take, drop, replicate, length-append, length-replicate, getD-replicate, length-map, List·getD-append, List·getD-map}
+use lib.ListN.{length, getD, take, drop, length-append, getD-replicate, length-map, List·getD-append, List·getD-map}
 use lib.Seq.{getD-drop, getD-append-add}
 use Rattle.object.specs.declared.Kind.{Kind}
 use Rattle.object.specs.declared.Request.{Request}
@@ -30,22 +30,7 @@ use Rattle.invariant.specs.View.{viewOf}
 use Rattle.invariant.proofs.Start.{Fresh}
 use Rattle.claims.specs.Entries.{filled, slotsOf, rowsOf, startOf}
 use Rattle.claims.specs.Claims.{askedBy}
-
--- a list filled up: its length, and what stands at each place
-module _ {A : Type 0} (a : A) where
-  length-filled : (k : ℕ) (l : List A) → length l ≤ k → length (filled k a l) ≡ k
-  length-filled k l h = rw (length-append, length-replicate) (omega arith)
-
-  -- past the end too, where it is the default
-  pub padded : (m i : ℕ) → getD (replicate m a) i a ≡ a
-  padded zero i = refl
-  padded (suc m) zero = refl
-  padded (suc m) (suc i) = padded m i
-
-  filled-at : (m : ℕ) (l : List A) (i : ℕ) → getD (l ++ replicate m a) i a ≡ getD l i a
-  filled-at m [] i = padded m i
-  filled-at m (x ∷ l) zero = refl
-  filled-at m (x ∷ l) (suc i) = filled-at m l i
+use Rattle.claims.proofs.Filled.{length-filled, filled-at}
 
 abbrev pub slotOf : Request → Slot
 slotOf request = record { request = request }

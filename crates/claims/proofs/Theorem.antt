@@ -2,7 +2,8 @@
 use Prim.Native.Nat.{ℕ}
 use mathlib.Core.Path.{_≡_, refl, ap}
 use mathlib.Core.List.{List, [], reverse}
-use lib.ListN.{take}
+use lib.ListN.{length, take}
+use lib.Seq.{take-length}
 use Rattle.machine.specs.declared.Thread.{Thread}
 use Rattle.bench_file.specs.Layout.{Fields, accepted, judgeOf}
 use Rattle.object.specs.Each.{Each}
@@ -13,8 +14,8 @@ use Rattle.invariant.specs.View.{viewOf}
 use Rattle.invariant.proofs.Data.{data-fresh}
 use Rattle.invariant.proofs.Remote.{remote-fresh}
 use Rattle.invariant.proofs.Start.{control-fresh}
-use Rattle.claims.specs.Entries.{startOf, stateAfter, entriesOf}
-use Rattle.claims.specs.Claims.{Demand3Of}
+use Rattle.claims.specs.Entries.{startOf, stateAfter, entriesOf, howMany}
+use Rattle.claims.specs.Claims.{Holds, Demand3Of}
 use Rattle.claims.proofs.Calls.{calls-fresh}
 use Rattle.claims.proofs.CopiesSaid.{copies-fresh}
 use Rattle.claims.proofs.Cut.{stopped, cut-in-range}
@@ -66,6 +67,10 @@ module _ (f : Fields) (fits : InRange f) where
         cut-file = cut-in-range f j fits;
       }
 
--- the same from a file's bytes
+  -- after the last entry the claim is of the whole run
+  pub holds-whole : Holds f (reverse (entriesOf f)) (howMany 5 (reverse (entriesOf f))) (howMany 16 (reverse (entriesOf f)))
+  holds-whole = rw (take-length (entriesOf f)) at (demand-3 (length (entriesOf f)) .holds)
+
+-- demand 3 from a file's bytes
 pub demand-3-of-files : (bytes : List ℕ) (f : Fields) → Each Byte bytes → judgeOf bytes ≡ accepted f → Demand3Of f
 demand-3-of-files bytes f each judged = demand-3 f (accepted-in-range bytes f each judged)

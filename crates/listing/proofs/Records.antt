@@ -21,7 +21,7 @@ use Rattle.listing.specs.Listing.{headLine, retOf, callLine, recordLine,
 use Rattle.listing.specs.Laid.{rowsIn}
 
 -- records that follow each other in a buffer are read back
-pub rows-back : (rows : List (List ℕ)) (rest : List ℕ) → Each (λ row. length row ≡ 16) rows → rowsIn (length rows) (eachBytes (λ row. row) rows ++ rest) ≡ rows
+rows-back : (rows : List (List ℕ)) (rest : List ℕ) → Each (λ row. length row ≡ 16) rows → rowsIn (length rows) (eachBytes (λ row. row) rows ++ rest) ≡ rows
 unfolding rowsIn eachBytes
 rows-back [] rest p = refl
 rows-back (row ∷ rows) rest p =

@@ -3,25 +3,24 @@ use Prim.Native.Nat.{ℕ, _*_, _≤_}
 use native.Mathlib.Omega.{arith}
 use mathlib.Core.Path.{_≡_, sym, ap, subst, _∙_}
 use mathlib.Core.List.{List, _++_, reverse}
-use lib.ListN.{length, drop, replicate}
+use lib.ListN.{length, replicate}
 use borrow.Author.Tests.{le-ltb}
 use Rattle.bench_file.specs.declared.Head.{Head}
 use Rattle.bench_file.specs.declared.Judged.{Judged}
 use Rattle.bench_file.specs.declared.Judged.the-variants as Judged
-use Rattle.bench_file.specs.Layout.{Fields, Judgement, accepted, refusedBy, judgeOf}
+use Rattle.bench_file.specs.Layout.{Fields, Judgement, accepted, judgeOf}
 use Rattle.bench_file.specs.Promise.{Judges, judgedAs}
-use Rattle.bench_file.specs.Bytes.{InRange, eachBytes}
+use Rattle.bench_file.specs.Bytes.{InRange}
 use Rattle.bench_file.specs.Cursor.{sumOver}
 use Rattle.state.specs.declared.Counts.{Counts}
 use Rattle.claims.specs.Entries.{Entry, entriesOf}
 use Rattle.claims.specs.Terms.{recordsOf, countsOf}
 use Rattle.claims.specs.Result.{Result, ranIf}
-use Rattle.claims.proofs.Room.{requests-few}
-use Rattle.loader.proofs.Answer.{accepted-fields}
+use Rattle.claims.proofs.Room.{requests-few, all-swaps-few}
+use Rattle.loader.proofs.Answer.{accepted-fields, refused-number}
 use Rattle.bench.specs.declared.Ran.{Ran}
 use Rattle.bench.specs.Run.{resultIn, written}
 use Rattle.bench.specs.Promise.{Runs}
-use Rattle.bench.proofs.Running.{few}
 use Rattle.listing.specs.Listing.{headLine, recordLines, refusalLine, listingOf}
 use Rattle.listing.specs.Laid.{rowsIn}
 use Rattle.listing.proofs.Records.{listing-of-run}
@@ -41,7 +40,7 @@ module _ {bytes rows : List ℕ} {ran : Ran} (runs : Runs bytes (replicate 4096 
   as-many = ap (λ (c : Counts). c .records) counted ∙ sym (runs .whole f judged .records)
 
   records-few : ran .counts .records ≤ 256
-  records-few = omega (arith, ap (λ (c : Counts). c .records) counted, few f fits, requests-few f fits)
+  records-few = omega (arith, ap (λ (c : Counts). c .records) counted, all-swaps-few f fits)
 
   run-listed : headLine (f .head) (ran .counts) ++ recordLines 0 (rowsIn (ran .counts .records) rows) ≡ listingOf (judgeOf bytes)
   run-listed =
@@ -62,5 +61,4 @@ listable {bytes = bytes} {rows = rows} {ran = ran} runs judges is =
 
 pub refusal-listed : (j : Judgement) {number : ℕ} → Judged.Refused number ≡ judgedAs j → refusalLine number ≡ listingOf j
 unfolding listingOf
-refusal-listed (accepted f) e = let z : _≡_ {A = ℕ} 0 1 = cc in absurd (omega arith)
-refusal-listed (refusedBy number) e = ap refusalLine cc
+refusal-listed j e = rw (refused-number j e)

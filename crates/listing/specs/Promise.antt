@@ -14,14 +14,14 @@ use Rattle.listing.specs.Laid.{headMost, lineMost}
 abbrev pub listedAs : ℕ → List ℕ → Listed
 listedAs size words = cond (leb (length words) size) (record { refusal = 0; length = length words }) (record { refusal = 13; length = 0 })
 
--- the buffer after: the text stands from its first byte on and later bytes are as they were, or all is as it was
-abbrev pub written : List ℕ → List ℕ → List ℕ
-written words old = cond (leb (length words) (length old)) (words ++ drop (length words) old) old
+-- the text stands from the buffer's first byte on and later bytes are as they were, or all is as it was
+abbrev pub bufferAfter : List ℕ → List ℕ → List ℕ
+bufferAfter words old = cond (leb (length words) (length old)) (words ++ drop (length words) old) old
 
 -- a text is given in a lent buffer
 pub record Gives (words old new : List ℕ) (r : Listed) : Type 0 where
   pub answer : r ≡ listedAs (length old) words
-  pub buffer : new ≡ written words old
+  pub buffer : new ≡ bufferAfter words old
 
 -- so many bytes hold every listing: a head line and a line for each of at most 256 records
 abbrev pub enoughBytes : ℕ

@@ -1,5 +1,5 @@
 pub mod Answer
 pub mod Decoded
-pub mod Filling
 pub mod Schedule
+pub mod Threads
 pub mod Walk

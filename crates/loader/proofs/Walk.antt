@@ -20,9 +20,9 @@ use Rattle.state.specs.declared.Slot.{Slot}
 use Rattle.state.specs.Fresh.{freshState}
 use Rattle.step.specs.Entry.{zeroSlot}
 use Rattle.claims.specs.Entries.{filled, slotsOf, rowsOf}
+use Rattle.claims.proofs.Filled.{sets-filled, set-filled}
 use Rattle.claims.proofs.Start.{slotOf, length-rows}
 use Rattle.loader.specs.Load.{slotsIn, loadedAs}
-use Rattle.loader.proofs.Filling.{sets-filled}
 use Rattle.loader.proofs.Decoded.{slots-decoded}
 
 -- from the schedule's length on
@@ -83,7 +83,7 @@ module _ (f : Fields) (fits : InRange f) (bytes : List ℕ) (i at : ℕ) (left :
   counts-next : set (filled 16 0 (map length (take i (f .rows)))) i (getD bytes at 0) ≡ filled 16 0 (map length (take (i + 1) (f .rows)))
   counts-next =
       rw (count-here, add-one, take-suc (f .rows) i [] there, map-append)
-      (sets-filled 0 16 i (map length (take i (f .rows))) (length (rowAt f i) ∷ []) 0 (rw length-map so-far) (omega (arith, fits .head .n)))
+      (set-filled 0 16 i (map length (take i (f .rows))) (length (rowAt f i)) (rw length-map so-far) (omega (arith, fits .head .n)))
 
   requests-next : sets (filled 256 zeroSlot (rowsOf (take i (f .rows)))) (16 * i) (slotsIn (getD bytes at 0) (drop (at + 1) bytes)) ≡ filled 256 zeroSlot (rowsOf (take (i + 1) (f .rows)))
   requests-next =

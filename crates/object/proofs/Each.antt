@@ -1,7 +1,8 @@
--- Laws of `Each` of specs/Each.antt: over two lists in turn, over a part of a list, at each place, and from one property to another. Assumes nothing.
+-- Laws of `Each` of specs/Each.antt: over two lists in turn, over a part of a list, at each place, from one property to another, and of what is mapped. Assumes nothing.
 use Prim.Native.Nat.{ℕ, zero, suc, _<_}
 use native.Mathlib.Omega.{arith}
-use mathlib.Core.List.{List, [], _∷_, _++_}
+use mathlib.Core.Path.{_≡_, refl, ap₂}
+use mathlib.Core.List.{List, [], _∷_, _++_, map}
 use lib.ListN.{length, getD, take, drop, take-append-drop}
 use Rattle.object.specs.Each.{Each}
 
@@ -38,3 +39,8 @@ each-getD P (x ∷ l) (suc i) d e h = each-getD P l i d (e .1) (omega arith)
 pub each-map : {A : Type 0} {P Q : A → Type 0} → ((a : A) → P a → Q a) → (l : List A) → Each P l → Each Q l
 each-map f [] p = tt
 each-map f (a ∷ l) p = (f a (p .0), each-map f l (p .1))
+
+-- two functions that agree on each element give one list
+pub map-each : {A B : Type 0} (g h : A → B) (l : List A) → Each (λ a. g a ≡ h a) l → map g l ≡ map h l
+map-each g h [] e = refl
+map-each g h (a ∷ l) e = ap₂ _∷_ (e .0) (map-each g h l (e .1))

@@ -1,13 +1,13 @@
 -- What the loop of a run keeps: the invariant of the file's run, what the arrays say of the entries so far, and that the rest of the schedule ends the run.
 -- Assumes fields in range.
-use Prim.Native.Nat.{ℕ, suc, _+_, _-_, _*_, _%_, _≤_, _<_}
+use Prim.Native.Nat.{ℕ, _+_, _-_, _*_, _%_, _≤_, _<_}
 use native.Mathlib.Numerals.{add-one}
 use native.Mathlib.Omega.{arith}
-use mathlib.Core.Path.{_≡_, refl, sym, ap, subst, _∙_}
+use mathlib.Core.Path.{_≡_, refl, sym, ap, _∙_}
 use mathlib.Core.Bool.{true, false, cond}
 use mathlib.Core.List.{List, [], _∷_, map, reverse, reverseAux}
 use lib.ListN.{length, getD, set, drop, replicate, drop-of-length-le}
-use lib.Seq.{drop-cons, take-length}
+use lib.Seq.{drop-cons}
 use lib.Dec.{eqb}
 use borrow.Author.Tests.{eq-eqb, ne-eqb}
 use Rattle.object.specs.Each.{Each}
@@ -38,7 +38,7 @@ use Rattle.invariant.proofs.Bridge.{number-line}
 use Rattle.claims.specs.Entries.{Entry, entryOf, startOf, entriesFrom, stateAfter, entriesOf, howMany}
 use Rattle.claims.proofs.Counted.{next-fits}
 use Rattle.claims.proofs.Layers.{Layers, stays, layers-next}
-use Rattle.claims.proofs.Room.{swaps-few, requests-few}
+use Rattle.claims.proofs.Room.{all-swaps-few}
 use Rattle.claims.proofs.Run.{Going, going-next}
 use Rattle.claims.proofs.Theorem.{run-layers}
 use Rattle.runner.specs.declared.Kept.{Kept}
@@ -48,12 +48,13 @@ use Rattle.runner.specs.Played.{fieldsIn, Startable, playedOf}
 use Rattle.runner.proofs.Tabled.{is-tabled}
 use Rattle.runner.proofs.Tables.{Tables, tables-start, place, served, enteredCalls, servedCalls, orderAfter, givenAfter, turnsAfter, place-below, served-below, tables-next}
 
+-- the run at place i of the bytes: the entries so far, and what is left of the schedule
 pub record Running (f : Fields) (bytes : List ℕ) (i : ℕ) (s : State) (kept : List Kept) (order given turns : List ℕ) : Type 0 where
   pub past : List Entry
   pub going : Going f s past
   pub layers : Layers f s past
   pub tables : Tables past kept order given turns
-  -- what is left of the schedule: threads below n, and the entries that end the run
+  -- threads below n, and the entries that end the run
   pub left : Each (λ t. t < f .head .n) (drop i bytes)
   pub short : length past + length (drop i bytes) ≤ 32768
   pub ends : reverseAux (entriesFrom s (drop i bytes)) past ≡ reverse (entriesOf f)
@@ -64,7 +65,7 @@ more-swaps [] past = omega arith
 more-swaps (e ∷ rest) past = omega (arith, more-swaps rest (e ∷ past))
 
 module _ (f : Fields) (bytes : List ℕ) (fits : InRange f) where
-  pub running-start : (from : ℕ) → drop from bytes ≡ f .schedule → Running f bytes from (startOf f) (replicate 256 unkept) (replicate 256 0) (replicate 17 4335) (replicate 16 65535)
+  running-start : (from : ℕ) → drop from bytes ≡ f .schedule → Running f bytes from (startOf f) (replicate 256 unkept) (replicate 256 0) (replicate 17 4335) (replicate 16 65535)
   unfolding stateAfter
   running-start from e =
       let fresh = run-layers f fits 0 in
@@ -79,7 +80,7 @@ module _ (f : Fields) (bytes : List ℕ) (fits : InRange f) where
       }
 
   -- with nothing left the entries so far are the run
-  pub ends-none : {i : ℕ} {s : State} {kept : List Kept} {order given turns : List ℕ} (x : Running f bytes i s kept order given turns) → length bytes ≤ i
+  ends-none : {i : ℕ} {s : State} {kept : List Kept} {order given turns : List ℕ} (x : Running f bytes i s kept order given turns) → length bytes ≤ i
       → x .past ≡ reverse (entriesOf f)
   unfolding entriesFrom
   ends-none {s = s} x done = ap (λ (l : List ℕ). reverseAux (entriesFrom s l) (x .past)) (sym (drop-of-length-le bytes done)) ∙ x .ends
@@ -94,10 +95,10 @@ module _ (f : Fields) (bytes : List ℕ) (fits : InRange f) where
     each : Each (λ t. t < f .head .n) (t .0 ∷ drop (i + 1) bytes)
     each = rw here at (x .left)
 
-    pub below : t .0 < s .n
+    below : t .0 < s .n
     below = omega (arith, each .0, x .going .n)
 
-    pub few : length (x .past) < 32768
+    few : length (x .past) < 32768
     few = omega (arith, ap length here, x .short)
 
     -- the numbers that the entry reads are within the arrays
@@ -119,12 +120,11 @@ module _ (f : Fields) (bytes : List ℕ) (fits : InRange f) where
     ends-next = ap (λ (l : List ℕ). reverseAux (entriesFrom s l) (x .past)) (sym here) ∙ x .ends
 
     -- there is room in Swap order for one more
-    pub room : line s t ≡ 5 → s .counts .records < 256
+    room : line s t ≡ 5 → s .counts .records < 256
     room swap =
         let counted : s .counts .records ≡ howMany 5 (x .past) = ap (λ (c : Counts). c .records) (x .going .counted .counts) in
         let one : howMany 5 (entryOf s t ∷ x .past) ≡ 1 + howMany 5 (x .past) = rw (eq-eqb (line s t) 5 swap) in
-        let all = rw (take-length (entriesOf f)) at (swaps-few f fits (length (entriesOf f))) in
-        omega (arith, rw ends-next at (more-swaps (entriesFrom (entered s t) (drop (i + 1) bytes)) (entryOf s t ∷ x .past)), all, requests-few f fits)
+        omega (arith, rw ends-next at (more-swaps (entriesFrom (entered s t) (drop (i + 1) bytes)) (entryOf s t ∷ x .past)), all-swaps-few f fits)
 
     -- what the loop's own calls answered for the entry, and what the notes left in the arrays
     pub record Booked (d : Kept) (k : ℕ) (m : NodeId) (answer : Answer) (e : Effect) (remote call served : ℕ) (order′ given′ turns′ : List ℕ) (mine theirs : Kept) : Type 0 where
@@ -183,7 +183,7 @@ module _ (f : Fields) (bytes : List ℕ) (fits : InRange f) where
         pub is-served : {their : ℕ} → their ≡ cond (eqb k 16) (getD given (m .0) 0) call → their ≡ served s t given
         is-served z = rw (called .line-run, is-node, is-call) at z
 
-      pub turn : {call their : ℕ} {order′ given′ turns′ : List ℕ} {counts : Counts} {d mine theirs : Kept} → counts ≡ wrapped (plus (s .counts) more)
+      turn : {call their : ℕ} {order′ given′ turns′ : List ℕ} {counts : Counts} {d mine theirs : Kept} → counts ≡ wrapped (plus (s .counts) more)
           → Booked d k m (ob .answer) e remote call their order′ given′ turns′ mine theirs
           → Running f bytes (i + 1) (made s t m (ob .object) e copies counts) (set (set kept call mine) their theirs) order′ given′ turns′
       turn {d = d} {mine = mine} {theirs = theirs} sum b =
@@ -205,7 +205,7 @@ module _ (f : Fields) (bytes : List ℕ) (fits : InRange f) where
           ) (running-next d)
 
 -- a state with another object: line 16 alone puts it in its place
-abbrev pub withObject : State → Object → State
+abbrev withObject : State → Object → State
 withObject s ob = record {
   n = s .n;
   h = s .h;
@@ -220,6 +220,7 @@ withObject s ob = record {
   counts = s .counts;
 }
 
+-- what the branch for line 16 leaves: the answer and the state with what was applied, if anything was
 pub record Serves (s J : State) (answer : Answer) (ob : Applied) : Type 0 where
   pub answers : answer ≡ ob .answer
   pub state : J ≡ withObject s (ob .object)

@@ -8,7 +8,7 @@ use lib.Seq.{ext-getD}
 use Rattle.runner.specs.Played.{tabled}
 
 module _ {A : Type 0} (value : ℕ → A) where
-  pub length-tabled : (from k : ℕ) → length (tabled value from k) ≡ k
+  length-tabled : (from k : ℕ) → length (tabled value from k) ≡ k
   unfolding tabled
   length-tabled from zero = refl
   length-tabled from (suc k) = ap suc (length-tabled (from + 1) k)

@@ -1,12 +1,12 @@
 -- What the arrays of a run in place say of its entries so far, and that every entry keeps it. Assumes the invariant of a file's run, and room for a Swap in its order.
-use Prim.Native.Nat.{ℕ, suc, _+_, _-_, _*_, _%_, _^_, _≤_, _<_}
+use Prim.Native.Nat.{ℕ, _+_, _-_, _*_, _%_, _^_, _≤_, _<_}
 use native.Mathlib.Omega.{arith}
 use native.Mathlib.Nat.{mod-eq-of-lt, div-add-mod}
 use mathlib.Core.Path.{_≡_, refl, sym, ap, ap₂, subst, _∙_}
 use mathlib.Core.Bool.{Bool, true, false, cond, _&&_, _||_}
-use mathlib.Core.List.{List, [], _∷_, _++_, map, map-append, append-nil, append-assoc}
-use lib.ListN.{length, getD, set, replicate, length-append, length-map, length-set, getD-replicate}
-use lib.Seq.{getD-set-same, getD-set-other, set-getD, set-at}
+use mathlib.Core.List.{List, [], _∷_, _++_, map, map-append, append-nil}
+use lib.ListN.{length, getD, set, replicate, length-map, length-set, getD-replicate}
+use lib.Seq.{getD-set-same, getD-set-other, set-getD}
 use lib.Dec.{eqb}
 use borrow.Author.Tests.{eq-eqb, ne-eqb}
 use Rattle.bench_file.specs.Layout.{Fields}
@@ -28,11 +28,13 @@ use Rattle.invariant.proofs.Upd.{by-equal}
 use Rattle.invariant.proofs.Threads.{serving}
 use Rattle.claims.specs.Entries.{Entry, entryOf, filled, runs, howMany}
 use Rattle.claims.specs.Terms.{Call, Serving, Shown, noCall, callOf, same, swapOrder, callGiven, turnOf, servingOf, servings, costOf, returned, shown, unshown, shownOf, retMark, retValue}
+use Rattle.claims.proofs.Filled.{set-filled}
 use Rattle.claims.proofs.Counted.{remote-ones, counted-next, next-fits, cost-fits, tests-few}
 use Rattle.claims.proofs.History.{Happens, lastOf, Swapped}
 use Rattle.claims.proofs.Layers.{Layers, happens, stays}
 use Rattle.claims.proofs.OfCall.{call, same-itself, not-same, blank-of-none, not-of, is-of, left, added}
 use Rattle.claims.proofs.Parts.{one-each}
+use Rattle.claims.proofs.Places.{getD-any}
 use Rattle.claims.proofs.Run.{Going}
 use Rattle.claims.proofs.Served.{shown-none}
 use Rattle.claims.proofs.Steps.{one-sound}
@@ -61,23 +63,11 @@ tables-start = record {
   threads = λ u b. getD-replicate 16 u 65535 0 b;
 }
 
-module _ {A : Type 0} where
-  -- within a list what stands for the places past it doesn't matter
-  pub getD-any : (l : List A) (i : ℕ) (a b : A) → i < length l → getD l i a ≡ getD l i b
-  getD-any l i a b k = sym (getD-set-same l i (getD l i a) b k) ∙ ap (λ (z : List A). getD z i b) (set-getD l i a)
-
-  -- what holds of the value set, and of the others, holds of all after it is set
-  set-all : (P : ℕ → A → Type 0) (l : List A) (i : ℕ) (x a : A) → i < length l → P i x → (p : ℕ) → ((p ≡ i → ⊥) → P p (getD l p a)) → P p (getD (set l i x) p a)
-  set-all P l i x a k here p others =
-      by-equal p i (λ z. rw z (subst (P i) (sym (getD-set-same l i x a k)) here))
-      (λ apart. subst (P p) (sym (getD-set-other l i p x a apart)) (others apart))
-
-  -- a filled list takes one more at its first free place
-  filled-next : (k : ℕ) (a x : A) (l : List A) → length l < k → set (filled k a l) (length l) x ≡ filled k a (l ++ x ∷ [])
-  filled-next k a x l b =
-      let m = k - length (l ++ x ∷ []) in
-      let more : k - length l ≡ suc m = omega (arith, length-append l (x ∷ [])) in
-      rw (more, append-assoc) (set-at l a (replicate m a) x (length l) refl)
+-- what holds of the value set, and of the others, holds of all after it is set
+set-all : {A : Type 0} (P : ℕ → A → Type 0) (l : List A) (i : ℕ) (x a : A) → i < length l → P i x → (p : ℕ) → ((p ≡ i → ⊥) → P p (getD l p a)) → P p (getD (set l i x) p a)
+set-all P l i x a k here p others =
+    by-equal p i (λ z. rw z (subst (P i) (sym (getD-set-same l i x a k)) here))
+    (λ apart. subst (P p) (sym (getD-set-other l i p x a apart)) (others apart))
 
 -- a call of the first 16 of its thread has its place, and each place its call
 pub call-there : (c : Call) → c .request < 16 → callAt (placeOf c) ≡ c
@@ -271,7 +261,7 @@ module _ (f : Fields) (fits : InRange f) (s : State) (past : List Entry) (t : Th
   target-below : target s t .0 < 17
   target-below = omega (arith, target-in-range s t (going .sound .shape) (going .sound .range) below, few)
 
-  pub tail-below : s .tail .0 < 17
+  tail-below : s .tail .0 < 17
   tail-below = omega (arith, few, state-fits s (going .sound .range) .tail)
 
   -- the latest Swap that gave a node
@@ -327,7 +317,7 @@ module _ (f : Fields) (fits : InRange f) (s : State) (past : List Entry) (t : Th
         (λ q.
         ap₂ (λ (l : List ℕ) (i : ℕ). set l i (place s t % 65536)) (tables .swaps) swaps-counted
         ∙ ap (set (filled 256 0 places) (length places)) (mod-eq-of-lt (omega (arith, place-below)) ∙ sym call-place)
-        ∙ filled-next 256 0 (placeOf (callOf e past)) places (omega (arith, swaps-counted, room q))
+        ∙ set-filled 0 256 (length places) places (placeOf (callOf e past)) refl (omega (arith, swaps-counted, room q))
         ∙ ap (filled 256 0) (sym (ap (map placeOf) (one-more 5 (swapOrder past) (callOf e past) q) ∙ map-append placeOf (swapOrder past) (callOf e past ∷ []))))
         (λ q. tables .swaps ∙ ap (λ (l : List Call). filled 256 0 (map placeOf l)) (sym (no-more 5 (swapOrder past) (callOf e past) q)))
 

@@ -13,7 +13,6 @@ use Rattle.state.specs.declared.State.{State}
 use Rattle.claims.specs.Entries.{Entry, filled, startOf, entriesOf}
 use Rattle.claims.specs.Terms.{swapOrder, countsOf}
 use Rattle.claims.specs.Result.{counted}
-use Rattle.runner.specs.declared.Kept.{Kept}
 use Rattle.runner.specs.declared.Played.{Played}
 use Rattle.runner.specs.Kept.{placeOf, callAt, keptOf, unkept}
 
@@ -38,7 +37,7 @@ tabled value from zero = []
 tabled value from (suc k) = value from ∷ tabled value (from + 1) k
 
 -- what is left after all entries of a file
-abbrev pub playedBy : List Entry → Played
+abbrev playedBy : List Entry → Played
 playedBy run = record {
   refusal = 0;
   counts = countsOf run;

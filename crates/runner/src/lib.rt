@@ -1,5 +1,5 @@
 // A bench file's run from its fresh machine, in place: one local state stepped entry by entry, and what a record needs kept of each call.
-ghost use Prim.Native.Nat.{_+_, _%_, _≤_, _<_};
+ghost use Prim.Native.Nat.{_%_, _<_};
 ghost use mathlib.Core.Path.{_≡_};
 ghost use mathlib.Core.Bool.{cond};
 ghost use lib.ListN.{getD, set};
@@ -23,9 +23,10 @@ pub struct Kept {
     pub turn: u16,
 }
 
-// The place of no thread's call, and the turn of a thread that has begun none.
-const NO_CALL: u16 = 4335;
+// The place of no call: that of request 255 of thread 255.
+const NO_CALL: u16 = 16 * 255 + 255;
 
+// No turn: of a thread that has begun none, and of a call that is not served.
 const NO_TURN: u16 = 65535;
 
 // A run: refusal 0 with the five counts, what is kept of each call, by its place, and the places in Swap order; or a refusal's number, with
@@ -47,7 +48,7 @@ fn unkept() -> Kept
         value: 0,
         remote: 0,
         returned: false,
-        turn: 65535,
+        turn: NO_TURN,
     }
 }
 
@@ -211,6 +212,7 @@ fn from_start(file: &[u8], schedule: usize, start: State) -> Played
     }
 }
 
+// A refusal.
 fn unplayed(number: u8) -> Played
     ensures { λ r. ⌜ r ≡ unplayed number ⌝ }
 {

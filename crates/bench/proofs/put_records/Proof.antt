@@ -5,14 +5,14 @@ use mathlib.Core.Path.{_≡_, ap, _∙_}
 use lib.ListN.{length, getD, length-take, length-drop}
 use borrow.Author.Needs.{needs}
 use Rattle.runner.specs.Kept.{callAt, unkept}
-use Rattle.runner.proofs.Tables.{getD-any}
+use Rattle.claims.proofs.Places.{getD-any}
 use Rattle.bench.specs.Records.{recordBytes, recordAt}
-use Rattle.bench.proofs.Putting.{sixteen, Laid, lays-none, lays, lays-all}
+use Rattle.bench.proofs.Putting.{sixteen, RecordsLaid, lays-none, lays, lays-all}
 use Rattle.bench.proofs.put_records.Statement.{statement}
 use Rattle.bench.proofs.put_records.Tie as tie
 
 abbrev Inv-loop : tie.InvT-loop
-Inv-loop out₀ count kept order i₀ out i = Laid kept order out₀ count out i
+Inv-loop out₀ count kept order i₀ out i = RecordsLaid kept order out₀ count out i
 
 abbrev μ-loop : tie.MeasureT-loop
 μ-loop out₀ count kept order i₀ out i = count - i

@@ -4,7 +4,7 @@ use borrow.Author.Needs.{needs}
 use Rattle.object.specs.Each.{Each}
 use Rattle.bench_file.specs.Bytes.{Byte}
 use Rattle.bench_file.proofs.Each.{each-at}
-use Rattle.bench.proofs.Running.{played-shows, runs}
+use Rattle.bench.proofs.Service.{played-shows, runs}
 use Rattle.bench.proofs.run.Statement.{statement}
 use Rattle.bench.proofs.run.Tie as tie
 

@@ -1,6 +1,8 @@
 -- `listing::list` meets its contract. Assumes nothing.
+use Prim.Native.Nat.{ℕ}
 use native.Mathlib.Omega.{arith}
 use mathlib.Core.Path.{_≡_, sym, _∙_}
+use mathlib.Core.List.{List}
 use lib.ListN.{length}
 use borrow.Author.Needs.{needs}
 use Rattle.bench_file.specs.Layout.{judgeOf}
@@ -9,9 +11,16 @@ use Rattle.listing.proofs.Service.{Listable, listable, refusal-listed}
 use Rattle.listing.proofs.list.Statement.{statement}
 use Rattle.listing.proofs.list.Tie as tie
 
+abbrev ran : tie.After-judge → tie.After-run
+ran c = c .before .before .before
+
+abbrev file : tie.After-run → List ℕ
+file c = c .before .before .before .before .args .file .now
+
 -- what an accepted file's listing is made of
-ready : (c : tie.After-head) → Listable (c .before .before .before .before .before .before .before .before .before .args .file .now) (c .before .before .before .before .before .run .last .1 .0) (c .before .before .before .before .before .run .result) (c .head .given .0 .0)
-ready c = listable (c .before .before .before .before .before .run .ensures) (c .before .before .judge .ensures) (c .head .given .1)
+ready : (c : tie.After-head) → let run = ran (c .before .before) in
+    Listable (file run) (run .run .last .1 .0) (run .run .result) (c .head .given .0 .0)
+ready c = listable (ran (c .before .before) .run .ensures) (c .before .before .judge .ensures) (c .head .given .1)
 
 long : (c : tie.After-run) → length (c .run .last .1 .0) ≡ 4096
 long c = search needs
@@ -35,7 +44,9 @@ cast-list-run : tie.Need-cast-list-run
 cast-list-run c = search needs
 
 list-run-requires : tie.Need-list-run-requires
-list-run-requires c κs = (omega (arith, ready (c .before .before .before .before) .most, long (c .before .before .before .before .before .before .before .before .before)), ready (c .before .before .before .before) .most)
+list-run-requires c κs =
+    let head = c .before .before .before .before in
+    (omega (arith, ready head .most, long (ran (head .before .before))), ready head .most)
 
 enum-known-number : tie.Need-enum-known-number
 enum-known-number c = search needs
@@ -54,8 +65,9 @@ same-length-2 c = search needs
 
 returns-2 : tie.Need-returns-2
 returns-2 c =
-    let judged = c .before .before .before .before .before .before .before .judge in
-    lists _ (refusal-listed (judgeOf (c .before .before .before .before .before .before .before .before .before .before .before .before .before .before .args .file .now)) (sym (c .before .before .before .before .before .number .given .1) ∙ judged .ensures .answer)) (c .before .before .list-refusal .ensures)
+    let number = c .before .before .before .before .before in
+    let judge = number .before .before in
+    lists _ (refusal-listed (judgeOf (file (ran judge))) (sym (number .number .given .1) ∙ judge .judge .ensures .answer)) (c .before .before .list-refusal .ensures)
 
 pub list-spec : {M : Type 1} → statement M
 list-spec =

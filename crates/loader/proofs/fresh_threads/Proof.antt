@@ -4,7 +4,7 @@ use mathlib.Core.Path.{_≡_, refl}
 use lib.ListN.{length, take, length-set}
 use borrow.Author.Needs.{needs}
 use Rattle.state.specs.Fresh.{freshThreads}
-use Rattle.loader.proofs.Filling.{threads-more, threads-all}
+use Rattle.loader.proofs.Threads.{threads-more, threads-all}
 use Rattle.loader.proofs.fresh_threads.Statement.{statement}
 use Rattle.loader.proofs.fresh_threads.Tie as tie
 

@@ -1,14 +1,23 @@
 -- `runner::from_start` meets its contract. Assumes nothing.
-use Prim.Native.Nat.{_-_, _<_}
+use Prim.Native.Nat.{ℕ, _-_, _<_}
 use native.Mathlib.Omega.{arith}
-use mathlib.Core.Path.{_≡_, refl, ap, _∙_}
+use mathlib.Core.Path.{_≡_, refl, ap, ap₂, _∙_}
 use mathlib.Core.Logic.{⊎-elim}
 use mathlib.Core.List.{List, _∷_}
 use lib.ListN.{length, getD, replicate, List·getD-map}
 use borrow.Author.Needs.{needs}
+use Rattle.object.specs.declared.Answer.{Answer}
+use Rattle.object.specs.declared.Applied.{Applied}
+use Rattle.object.specs.declared.Kind.{Kind}
+use Rattle.machine.specs.declared.Announced.{Announced}
+use Rattle.machine.specs.declared.Effect.{Effect}
 use Rattle.machine.specs.declared.Row.{Row}
-use Rattle.machine.specs.Lines.{Blank, printed, lineOf, silent, rowOf}
-use Rattle.step.specs.Entry.{zeroNode, appliedAt}
+use Rattle.machine.specs.declared.ThreadId.{ThreadId}
+use Rattle.machine.specs.Effect.{effectOf}
+use Rattle.machine.specs.Lines.{Blank, printed, lineOf, silent, rowOf, accessesOf}
+use Rattle.copies.specs.Remote.{Referred, referred}
+use Rattle.state.specs.declared.State.{State}
+use Rattle.step.specs.Entry.{zeroNode, zeroSlot, named, servedBy, appliedAt}
 use Rattle.step.proofs.Entering.{is-target, Called}
 use Rattle.runner.proofs.Running.{Looping, thread-few, line-few, node-few, slot-few, call-below, their-below, is-call, is-served, Serves, at-16, not-at-16, looping-start, looping-next, looping-ends}
 use Rattle.runner.proofs.from_start.Statement.{statement}
@@ -22,60 +31,128 @@ abbrev μ-loop : tie.MeasureT-loop
 μ-loop file schedule rows n h kind capacity state₀ kept₀ order₀ given₀ turns₀ i₀ state kept order given turns i =
     length file - i
 
+-- the entry that the loop is at, from each of its calls
+abbrev entry : tie.After-line-run Inv-loop μ-loop → tie.In-loop Inv-loop μ-loop
+entry c = c .before .before .before .before
+
+abbrev lined : tie.After-pointed Inv-loop μ-loop → tie.After-line-run Inv-loop μ-loop
+lined c = c .before .before
+
+abbrev pointed : tie.After-call-place Inv-loop μ-loop → tie.After-pointed Inv-loop μ-loop
+pointed c = c .before .before .before
+
+abbrev placed : tie.Joined1 Inv-loop μ-loop → tie.After-call-place Inv-loop μ-loop
+placed c = c .before .before .before .before
+
+abbrev joined : tie.After-more-of Inv-loop μ-loop → tie.Joined1 Inv-loop μ-loop
+joined c = c .before .before .before .before
+
+abbrev counted : tie.After-call-place2 Inv-loop μ-loop → tie.After-more-of Inv-loop μ-loop
+counted c = c .before .before .before .before .before
+
+abbrev node-of : tie.After-more-of Inv-loop μ-loop → tie.After-pointed Inv-loop μ-loop
+node-of c = pointed (placed (joined c))
+
+abbrev entry-of : tie.After-more-of Inv-loop μ-loop → tie.In-loop Inv-loop μ-loop
+entry-of c = entry (lined (node-of c))
+
+-- its state and its thread, the row of its line, and what line 16 applies
+abbrev state : tie.In-loop Inv-loop μ-loop → State
+state c = c .before .loop .state
+
+abbrev thread : tie.In-loop Inv-loop μ-loop → ThreadId
+thread c = record { 0 = getD (c .before .before .before .before .before .args .file .now) (c .before .loop .i) 0 }
+
+abbrev row : tie.After-line-run Inv-loop μ-loop → Row
+row c = getD (entry c .before .before .before .all-rows .result) (c .line-run .result) silent
+
+abbrev req : tie.After-pointed Inv-loop μ-loop → Announced
+req c = getD (state (entry (lined c)) .nodes) (c .pointed .result .0) zeroNode .req
+
+abbrev applied : tie.After-pointed Inv-loop μ-loop → Applied
+applied c = let s = state (entry (lined c)) in appliedAt (lined c .line-run .result) (s .kind) (s .capacity) (s .object) (req c)
+
 -- what the entry reads lies within the arrays
-thread-below : (c : tie.In-loop Inv-loop μ-loop) → getD (c .before .before .before .before .before .args .file .now) (c .before .loop .i) 0 < 16
+thread-below : (c : tie.In-loop Inv-loop μ-loop) → thread c .0 < 16
 thread-below c = let now = c .before .loop .inv in thread-few _ _ (now .fits) (now .running) (c .loop-test .taken)
 
 line-below : (c : tie.After-line-run Inv-loop μ-loop) → c .line-run .result < 22
-line-below c = let at = c .before .before .before .before in let now = at .before .loop .inv in line-few _ _ (now .fits) (now .running) (at .loop-test .taken) (c .line-run .ensures)
+line-below c =
+    let at = entry c in
+    let now = at .before .loop .inv in
+    line-few _ _ (now .fits) (now .running) (at .loop-test .taken) (c .line-run .ensures)
 
-row-of : (c : tie.After-line-run Inv-loop μ-loop) → getD (c .before .before .before .before .before .before .before .all-rows .result) (c .line-run .result) silent ≡ rowOf (lineOf (c .line-run .result))
+row-of : (c : tie.After-line-run Inv-loop μ-loop) → row c ≡ rowOf (lineOf (c .line-run .result))
 row-of c =
-    ap (λ (l : List Row). getD l (c .line-run .result) silent) (c .before .before .before .before .before .loop .inv .table)
+    ap (λ (l : List Row). getD l (c .line-run .result) silent) (entry c .before .loop .inv .table)
     ∙ List·getD-map rowOf (Blank ∷ printed) (c .line-run .result) Blank
 
 node-below : (c : tie.After-pointed Inv-loop μ-loop) → c .pointed .result .0 < 17
 node-below c =
-    let at = c .before .before .before .before .before .before in
+    let at = entry (lined c) in
     let now = at .before .loop .inv in
-    let lined = c .before .before in
-    node-few _ _ (now .fits) (now .running) (at .loop-test .taken)
-    (is-target (at .before .loop .state) (record { 0 = getD (at .before .before .before .before .before .args .file .now) (at .before .loop .i) 0 }) (lined .line-run .ensures) (row-of lined) (c .pointed .ensures))
+    node-few _ _ (now .fits) (now .running) (at .loop-test .taken) (is-target (state at) (thread at) (lined c .line-run .ensures) (row-of (lined c)) (c .pointed .ensures))
 
 place-below : (c : tie.After-call-place Inv-loop μ-loop) → c .call-place .result < 256
-place-below c = let at = c .before .before .before .before .before .before .before .before .before in let now = at .before .loop .inv in slot-few _ _ (now .fits) (now .running) (at .loop-test .taken) (c .call-place .ensures)
+place-below c =
+    let at = entry (lined (pointed c)) in
+    let now = at .before .loop .inv in
+    slot-few _ _ (now .fits) (now .running) (at .loop-test .taken) (c .call-place .ensures)
 
-serves : (c : tie.Joined1 Inv-loop μ-loop) → Serves (c .before .before .before .before .before .before .before .before .before .before .before .before .before .before .loop .state) (c .if1 .state) (c .if1 .answer) (appliedAt (c .before .before .before .before .before .before .before .before .before .line-run .result) (c .before .before .before .before .before .before .before .before .before .before .before .before .before .before .loop .state .kind) (c .before .before .before .before .before .before .before .before .before .before .before .before .before .before .loop .state .capacity) (c .before .before .before .before .before .before .before .before .before .before .before .before .before .before .loop .state .object) (getD (c .before .before .before .before .before .before .before .before .before .before .before .before .before .before .loop .state .nodes) (c .before .before .before .before .before .before .before .pointed .result .0) zeroNode .req))
+serves : (c : tie.Joined1 Inv-loop μ-loop)
+    → let at = pointed (placed c) in
+    Serves (state (entry (lined at))) (c .if1 .state) (c .if1 .answer) (applied at)
 serves c =
-    let s = c .before .before .before .before .before .before .before .before .before .before .before .before .before .before .loop .state in
-    let now = c .before .before .before .before .before .before .before .before .before .before .before .before .before .before .loop .inv in
-    let k = c .before .before .before .before .before .before .before .before .before .line-run .result in
-    let req = getD (s .nodes) (c .before .before .before .before .before .before .before .pointed .result .0) zeroNode .req in
-    ⊎-elim (λ w. at-16 s (c .if1 .state) (c .if1 .answer) k req (w .0 .taken) (rw (now .object, now .room) at (w .2 .ensures)) (w .5) (w .4))
-    (λ w. not-at-16 s (c .if1 .state) (c .if1 .answer) k req (w .0 .left) (w .2) (w .1))
+    let at = pointed (placed c) in
+    let s = state (entry (lined at)) in
+    let now = entry (lined at) .before .loop .inv in
+    let k = lined at .line-run .result in
+    let same = ap₂ (λ (kind : Kind) (capacity : ℕ). servedBy kind capacity (s .object) (req at)) (now .object) (now .room) in
+    ⊎-elim (λ w. at-16 s (c .if1 .state) (c .if1 .answer) k (req at) (w .0 .taken) (w .2 .ensures ∙ same) (w .5) (w .4))
+    (λ w. not-at-16 s (c .if1 .state) (c .if1 .answer) k (req at) (w .0 .left) (w .2) (w .1))
     (c .if1 .came)
 
 -- what the calls for the entry answered
 called : (c : tie.After-more-of Inv-loop μ-loop)
-    → Called (c .before .before .before .before .before .before .before .before .before .before .before .before .before .before .before .before .before .before .loop .state) (record { 0 = getD (c .before .before .before .before .before .before .before .before .before .before .before .before .before .before .before .before .before .before .before .before .before .before .args .file .now) (c .before .before .before .before .before .before .before .before .before .before .before .before .before .before .before .before .before .before .loop .i) 0 }) (c .before .before .before .before .before .before .before .before .before .before .before .before .before .line-run .result) (getD (c .before .before .before .before .before .before .before .before .before .before .before .before .before .before .before .before .before .before .before .before .all-rows .result) (c .before .before .before .before .before .before .before .before .before .before .before .before .before .line-run .result) silent) (c .before .before .before .before .before .before .before .before .before .before .before .pointed .result) (c .before .before .before .before .before .before .before .before .call-place .result) (appliedAt (c .before .before .before .before .before .before .before .before .before .before .before .before .before .line-run .result) (c .before .before .before .before .before .before .before .before .before .before .before .before .before .before .before .before .before .before .loop .state .kind) (c .before .before .before .before .before .before .before .before .before .before .before .before .before .before .before .before .before .before .loop .state .capacity) (c .before .before .before .before .before .before .before .before .before .before .before .before .before .before .before .before .before .before .loop .state .object) (getD (c .before .before .before .before .before .before .before .before .before .before .before .before .before .before .before .before .before .before .loop .state .nodes) (c .before .before .before .before .before .before .before .before .before .before .before .pointed .result .0) zeroNode .req)) (c .before .before .before .run-line .result) (c .before .refer-all .result) (c .before .refer-all .last .0) (c .more-of .result)
+    → let at = node-of c in
+    Called (state (entry-of c)) (thread (entry-of c)) (lined at .line-run .result) (row (lined at)) (at .pointed .result) (placed (joined c) .call-place .result) (applied at) (c .before .before .before .run-line .result) (c .before .refer-all .result) (c .before .refer-all .last .0) (c .more-of .result)
 called c =
-    let joined = c .before .before .before .before in
-    let now = c .before .before .before .before .before .before .before .before .before .before .before .before .before .before .before .before .before .before .loop .inv in
-    record { line-run = c .before .before .before .before .before .before .before .before .before .before .before .before .before .line-run .ensures; row-of = row-of (c .before .before .before .before .before .before .before .before .before .before .before .before .before); pointed-to = c .before .before .before .before .before .before .before .before .before .before .before .pointed .ensures; place = c .before .before .before .before .before .before .before .before .call-place .ensures; applied-at = refl; effect-of = rw (serves joined .answers, now .limit) at (c .before .before .before .run-line .ensures); remote-of = rw (serves joined .state, now .threads) at (c .before .refer-all .ensures .0); copies-of = rw (serves joined .state, now .threads) at (c .before .refer-all .ensures .1); more-of = c .more-of .ensures }
+    let at = node-of c in
+    let m = at .pointed .result in
+    let place = placed (joined c) .call-place in
+    let s = state (entry-of c) in
+    let t = thread (entry-of c) in
+    let now = entry-of c .before .loop .inv in
+    let served = serves (joined c) in
+    let refer = c .before .refer-all in
+    let effect : ℕ → Answer → Effect = λ h answer. effectOf (named s t) (getD (s .nodes) (m .0) zeroNode) (s .tail) h (getD (s .requests) (place .result) zeroSlot .request) answer in
+    let references = ap₂ (λ (n : ℕ) (s : State). referred n (t .0) (s .copies) (accessesOf (row (lined at)) m)) (now .threads) (served .state) in
+    record {
+      line-run = lined at .line-run .ensures;
+      row-of = row-of (lined at);
+      pointed-to = at .pointed .ensures;
+      place = place .ensures;
+      applied-at = refl;
+      effect-of = c .before .before .before .run-line .ensures ∙ ap₂ effect (now .limit) (served .answers);
+      remote-of = refer .ensures .0 ∙ ap (λ (r : Referred). r .remote) references;
+      copies-of = refer .ensures .1 ∙ ap (λ (r : Referred). r .copies) references;
+      more-of = c .more-of .ensures;
+    }
 
 -- the places of the entry's call and of the call that it serves
 call-small : (c : tie.After-call-place2 Inv-loop μ-loop) → c .call-place2 .result < 256
 call-small c =
-    let at = c .before .before .before .before .before .before .before .before .before .before .before .before .before .before .before .before .before .before .before .before .before .before in
+    let at = entry-of (counted c) in
     let now = at .before .loop .inv in
-    let is = is-call _ _ (now .fits) (now .running) (at .loop-test .taken) (called (c .before .before .before .before .before)) (c .call-place2 .ensures) in
+    let is = is-call _ _ (now .fits) (now .running) (at .loop-test .taken) (called (counted c)) (c .call-place2 .ensures) in
     omega (arith, is, call-below _ _ (now .fits) (now .running) (at .loop-test .taken))
 
 served-small : (c : tie.After-served-place Inv-loop μ-loop) → c .served-place .result < 256
 served-small c =
-    let at = c .before .before .before .before .before .before .before .before .before .before .before .before .before .before .before .before .before .before .before .before .before .before .before in
+    let placing = c .before in
+    let at = entry-of (counted placing) in
     let now = at .before .loop .inv in
-    let is = is-served _ _ (now .fits) (now .running) (at .loop-test .taken) (called (c .before .before .before .before .before .before)) (c .before .call-place2 .ensures) (c .served-place .ensures) in
+    let is = is-served _ _ (now .fits) (now .running) (at .loop-test .taken) (called (counted placing)) (placing .call-place2 .ensures) (c .served-place .ensures) in
     omega (arith, is, their-below _ _ (now .fits) (now .running) (at .loop-test .taken))
 
 all-rows-requires : tie.Need-all-rows-requires Inv-loop μ-loop
@@ -148,37 +225,37 @@ plus-requires : tie.Need-plus-requires Inv-loop μ-loop
 plus-requires c κs = search needs
 
 mul-thread-after : tie.Need-mul-thread-after Inv-loop μ-loop
-mul-thread-after c = omega (arith, thread-below (c .before .before .before .before .before .before .before .before .before .before .before .before .before .before .before .before .before .before .before .before .before))
+mul-thread-after c = omega (arith, thread-below (entry-of (c .before .before .before .before)))
 
 element-set-from-thread-after : tie.Need-element-set-from-thread-after Inv-loop μ-loop
-element-set-from-thread-after c = thread-below (c .before .before .before .before .before .before .before .before .before .before .before .before .before .before .before .before .before .before .before .before .before)
+element-set-from-thread-after c = thread-below (entry-of (c .before .before .before .before))
 
 mul-node-after : tie.Need-mul-node-after Inv-loop μ-loop
-mul-node-after c = omega (arith, node-below (c .before .before .before .before .before .before .before .before .before .before .before .before .before .before .before))
+mul-node-after c = omega (arith, node-below (node-of (c .before .before .before .before)))
 
 element-set-from-node-after : tie.Need-element-set-from-node-after Inv-loop μ-loop
-element-set-from-node-after c = node-below (c .before .before .before .before .before .before .before .before .before .before .before .before .before .before .before)
+element-set-from-node-after c = node-below (node-of (c .before .before .before .before))
 
 call-place-requires-2 : tie.Need-call-place-requires-2 Inv-loop μ-loop
 call-place-requires-2 c κs = search needs
 
 mul-turn : tie.Need-mul-turn Inv-loop μ-loop
-mul-turn c = omega (arith, thread-below (c .before .before .before .before .before .before .before .before .before .before .before .before .before .before .before .before .before .before .before .before .before .before))
+mul-turn c = omega (arith, thread-below (entry-of (counted c)))
 
 array-read-turn : tie.Need-array-read-turn Inv-loop μ-loop
-array-read-turn c = thread-below (c .before .before .before .before .before .before .before .before .before .before .before .before .before .before .before .before .before .before .before .before .before .before)
+array-read-turn c = thread-below (entry-of (counted c))
 
 mul-served-place : tie.Need-mul-served-place Inv-loop μ-loop
-mul-served-place c = omega (arith, node-below (c .before .before .before .before .before .before .before .before .before .before .before .before .before .before .before .before))
+mul-served-place c = omega (arith, node-below (node-of (counted c)))
 
 array-read-served-place : tie.Need-array-read-served-place Inv-loop μ-loop
-array-read-served-place c = node-below (c .before .before .before .before .before .before .before .before .before .before .before .before .before .before .before .before)
+array-read-served-place c = node-below (node-of (counted c))
 
 served-place-requires : tie.Need-served-place-requires Inv-loop μ-loop
 served-place-requires c κs = search needs
 
 note-requires : tie.Need-note-requires Inv-loop μ-loop
-note-requires c κs = thread-below (c .before .before .before .before .before .before .before .before .before .before .before .before .before .before .before .before .before .before .before .before .before .before .before .before .before .before)
+note-requires c κs = thread-below (entry-of (counted (c .before .before .before .before)))
 
 mul-mine : tie.Need-mul-mine Inv-loop μ-loop
 mul-mine c = omega (arith, call-small (c .before .before .before .before .before))
@@ -210,18 +287,32 @@ mul-kept-2 c = omega (arith, served-small (c .before .before .before .before .be
 array-set-from-kept-2 : tie.Need-array-set-from-kept-2 Inv-loop μ-loop
 array-set-from-kept-2 c = served-small (c .before .before .before .before .before .before .before .before)
 
+-- from the end of the loop back to the entry's call
+abbrev call-of : tie.After-after-serving Inv-loop μ-loop → tie.After-call-place2 Inv-loop μ-loop
+call-of c = c .before .before .before .before .before .before .before .before .before
+
 add-i : tie.Need-add-i Inv-loop μ-loop
-add-i c = omega (arith, c .before .before .before .before .before .before .before .before .before .before .before .before .before .before .before .before .before .before .before .before .before .before .before .before .before .before .before .before .before .before .before .loop-test .taken, c .before .before .before .before .before .before .before .before .before .before .before .before .before .before .before .before .before .before .before .before .before .before .before .before .before .before .before .before .before .before .before .before .before .before .before .before .good)
+add-i c = let at = entry-of (counted (call-of c)) in omega (arith, at .loop-test .taken, at .before .before .before .before .before .good)
 
 loop-less : tie.Need-loop-less Inv-loop μ-loop
-loop-less c = omega (arith, c .before .before .before .before .before .before .before .before .before .before .before .before .before .before .before .before .before .before .before .before .before .before .before .before .before .before .before .before .before .before .before .loop-test .taken)
+loop-less c = omega (arith, entry-of (counted (call-of c)) .loop-test .taken)
 
 loop-again : tie.Need-loop-again Inv-loop μ-loop
 loop-again c =
-    let at = c .before .before .before .before .before .before .before .before .before .before .before .before .before .before .before .before .before .before .before .before .before .before .before .before .before .before .before .before .before .before .before in
+    let call = call-of c in
+    let more = counted call in
+    let at = entry-of more in
     let noted = c .before .before .before .before .note .ensures in
-    looping-next (at .before .loop .inv) (at .loop-test .taken) (called (c .before .before .before .before .before .before .before .before .before .before .before .before .before .before)) (serves (c .before .before .before .before .before .before .before .before .before .before .before .before .before .before .before .before .before .before)) (c .before .before .before .before .before .before .before .before .before .before .plus .ensures)
-    (record { of-call = c .before .before .before .before .before .before .before .before .before .call-place2 .ensures; of-served = c .before .before .before .before .before .before .before .before .served-place .ensures; of-turns = noted .0; of-given = noted .1 .0; of-order = noted .1 .1; of-mine = c .before .before .after-entry .ensures; of-theirs = c .after-serving .ensures })
+    looping-next (at .before .loop .inv) (at .loop-test .taken) (called more) (serves (joined more)) (call .before .plus .ensures)
+    (record {
+      of-call = call .call-place2 .ensures;
+      of-served = c .before .before .before .before .before .before .before .before .served-place .ensures;
+      of-turns = noted .0;
+      of-given = noted .1 .0;
+      of-order = noted .1 .1;
+      of-mine = c .before .before .after-entry .ensures;
+      of-theirs = c .after-serving .ensures;
+    })
 
 returns : tie.Need-returns Inv-loop μ-loop
 returns c = looping-ends (c .before .before .loop .inv) (c .before .loop-test .left)

@@ -1,6 +1,8 @@
 -- `runner::play` meets its contract. Assumes nothing.
 use native.Mathlib.Omega.{arith}
+use Prim.Native.Nat.{ℕ}
 use mathlib.Core.Path.{_∙_}
+use mathlib.Core.List.{List}
 use borrow.Author.Needs.{needs}
 use Rattle.bench_file.specs.Layout.{judgeOf}
 use Rattle.bench_file.proofs.Each.{each-at}
@@ -8,11 +10,15 @@ use Rattle.runner.proofs.Playing.{Ready, ready, refused-plays, too-shor
 use Rattle.runner.proofs.play.Statement.{statement}
 use Rattle.runner.proofs.play.Tie as tie
 
+abbrev file : tie.After-load → List ℕ
+file c = c .before .before .args .file .now
+
 -- a file that is not refused is loaded
-now : (c : tie.Else1) → Ready (c .before .before .before .before .args .file .now) (judgeOf (c .before .before .before .before .args .file .now)) (c .before .before .load .result)
+now : (c : tie.Else1) → let loaded = c .before .before in
+    Ready (file loaded) (judgeOf (file loaded)) (loaded .load .result)
 now c =
-    let bytes = c .before .before .before .before .args .file .now in
-    ready bytes (each-at bytes (λ i. omega (arith, c .before .before .before .shared-slice-known .given i))) (c .before .before .load .ensures) (c .if1 .left)
+    let loaded = c .before .before in
+    ready (file loaded) (each-at (file loaded) (λ i. omega (arith, loaded .before .shared-slice-known .given i))) (loaded .load .ensures) (c .if1 .left)
 
 load-requires : tie.Need-load-requires
 load-requires c κs = search needs
@@ -21,7 +27,9 @@ unplayed-requires : tie.Need-unplayed-requires
 unplayed-requires c κs = search needs
 
 returns : tie.Need-returns
-returns c = c .unplayed .ensures ∙ refused-plays (judgeOf (c .before .before .before .before .before .args .file .now)) _ (c .before .before .before .load .ensures) (c .before .if1 .taken)
+returns c =
+    let loaded = c .before .before .before in
+    c .unplayed .ensures ∙ refused-plays (judgeOf (file loaded)) _ (loaded .load .ensures) (c .before .if1 .taken)
 
 mul-if2 : tie.Need-mul-if2
 mul-if2 c = omega (arith, now (c .before) .few)

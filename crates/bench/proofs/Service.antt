@@ -1,29 +1,28 @@
 -- What a run in place leaves gives the file's result, its records in Swap order, and so what the service promises. Assumes that the file's bytes are bytes.
 use Prim.Native.Nat.{ℕ, zero, suc, _*_, _≤_, _<_}
 use native.Mathlib.Omega.{arith}
-use mathlib.Core.Path.{_≡_, refl, ap, ap₂, _∙_}
+use mathlib.Core.Path.{_≡_, refl, ap, _∙_}
 use mathlib.Core.Bool.{Bool, true, false, cond}
 use mathlib.Core.List.{List, [], _∷_, map, map-map, reverse}
 use lib.ListN.{length, getD, length-map, List·getD-append}
-use lib.Seq.{take-at, take-length}
+use lib.Seq.{take-at}
 use lib.Dec.{ltb}
 use borrow.Author.Tests.{ltb-false}
 use Rattle.object.specs.declared.Kind.{Kind}
 use Rattle.object.specs.declared.Request.{Request}
 use Rattle.object.specs.Each.{Each}
-use Rattle.object.proofs.Each.{each-there, each-getD, each-map}
+use Rattle.object.proofs.Each.{each-there, each-getD, each-map, map-each}
 use Rattle.bench_file.specs.Layout.{Fields, Judgement, accepted, refusedBy, judgeOf}
 use Rattle.bench_file.specs.Bytes.{Byte, RowInRange, InRange}
 use Rattle.bench_file.specs.Cursor.{sumOver}
 use Rattle.bench_file.proofs.RoundTrip.{accepted-in-range}
 use Rattle.claims.specs.Entries.{Entry, entriesOf, howMany}
 use Rattle.claims.specs.Terms.{Call, noCall, callOf, swapOrder, recordOf, recordsOf}
-use Rattle.claims.specs.Claims.{Holds}
 use Rattle.claims.specs.Result.{Result, refusedWith, ranIf}
 use Rattle.claims.proofs.Parts.{one-each}
-use Rattle.claims.proofs.Room.{swaps-few, requests-few}
-use Rattle.claims.proofs.Served.{map-at}
-use Rattle.claims.proofs.Theorem.{demand-3}
+use Rattle.claims.proofs.Places.{map-at}
+use Rattle.claims.proofs.Room.{all-swaps-asked, all-swaps-few}
+use Rattle.claims.proofs.Theorem.{holds-whole, demand-3-of-files}
 use Rattle.runner.specs.declared.Played.{Played}
 use Rattle.runner.specs.Kept.{placeOf, callAt, keptOf, unkept}
 use Rattle.runner.specs.Played.{playedOf, unplayed, playedIn}
@@ -40,20 +39,9 @@ row-there object [] t q each b = absurd (omega arith)
 row-there object (row ∷ rows) zero q each b = omega (arith, each .0 .count)
 row-there object (row ∷ rows) (suc t) q each b = omega (arith, row-there object rows t q (each .1) b)
 
-map-each : {A : Type 0} {B : Type 0} (g h : A → B) (l : List A) → Each (λ a. g a ≡ h a) l → map g l ≡ map h l
-map-each g h [] each = refl
-map-each g h (a ∷ l) each = ap₂ _∷_ (each .0) (map-each g h l (each .1))
-
 module _ (f : Fields) (fits : InRange f) where
   abbrev run : List Entry
   run = reverse (entriesOf f)
-
-  -- the claim after the last entry is of the whole run
-  pub whole : Holds f run (howMany 5 run) (howMany 16 run)
-  whole = rw (take-length (entriesOf f)) at (demand-3 f fits (length (entriesOf f)) .holds)
-
-  pub few : howMany 5 run ≤ sumOver length (f .rows)
-  few = rw (take-length (entriesOf f)) at (swaps-few f fits (length (entriesOf f)))
 
   -- a call of Swap order has one of the 256 places
   abbrev Placed : Call → Type 0
@@ -62,7 +50,7 @@ module _ (f : Fields) (fits : InRange f) where
   placed : Each Placed (swapOrder run)
   placed =
       each-there Placed noCall (swapOrder run) (λ i b.
-      let there = row-there (f .head .object) (f .rows) _ _ (fits .rows) (whole .of-the-file i (omega (arith, one-each 5 callOf run))) in
+      let there = row-there (f .head .object) (f .rows) _ _ (fits .rows) (holds-whole f fits .of-the-file i (omega (arith, one-each 5 callOf run))) in
       omega (arith, there, fits .threads, fits .head .n))
 
   swapped : length (map placeOf (swapOrder run)) ≡ howMany 5 run
@@ -109,8 +97,8 @@ module _ (lent : ℕ) where
   run-shows f fits room = record {
     answer = refl;
     records = records-there f fits;
-    few = omega (arith, few f fits, requests-few f fits);
-    room = omega (arith, few f fits);
+    few = all-swaps-few f fits;
+    room = omega (arith, all-swaps-asked f fits);
     places = place-below f fits;
   }
 
@@ -132,6 +120,6 @@ module _ (bytes old : List ℕ) (p : Played) (each : Each Byte bytes) (is : p �
   runs new laid = record {
     answer = played-shows .answer;
     buffer = laid ∙ ap (written old) (played-shows .records);
-    demand-3 = λ f e. demand-3 f (accepted-in-range bytes f each e);
-    whole = λ f e. whole f (accepted-in-range bytes f each e);
+    demand-3 = λ f e. demand-3-of-files bytes f each e;
+    whole = λ f e. holds-whole f (accepted-in-range bytes f each e);
   }
