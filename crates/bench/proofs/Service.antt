@@ -18,7 +18,7 @@ use Rattle.bench_file.specs.Cursor.{sumOver}
 use Rattle.bench_file.proofs.RoundTrip.{accepted-in-range}
 use Rattle.claims.specs.Entries.{Entry, entriesOf, howMany}
 use Rattle.claims.specs.Terms.{Call, noCall, callOf, swapOrder, recordOf, recordsOf}
-use Rattle.claims.specs.Result.{Result, refusedWith, ranIf}
+use Rattle.claims.specs.Result.{Result, refusedResult, ranIf}
 use Rattle.claims.proofs.Parts.{one-each}
 use Rattle.claims.proofs.Places.{map-at}
 use Rattle.claims.proofs.Room.{all-swaps-asked, all-swaps-few}
@@ -90,7 +90,7 @@ pub record Shows (lent : ℕ) (p : Played) (result : Result) : Type 0 where
   pub places : (i : ℕ) → i < p .counts .records → getD (p .order) i 0 < 256
 
 module _ (lent : ℕ) where
-  refused-shows : (number : ℕ) → Shows lent (unplayed number) (refusedWith number)
+  refused-shows : (number : ℕ) → Shows lent (unplayed number) (refusedResult number)
   refused-shows number = record { answer = refl; records = refl; few = omega arith; room = omega arith; places = λ i b. absurd (omega arith) }
 
   run-shows : (f : Fields) → InRange f → 16 * sumOver length (f .rows) ≤ lent → Shows lent (playedOf f) (ranIf (accepted f))
@@ -107,7 +107,7 @@ module _ (lent : ℕ) where
   shows (accepted f) fits = by-test (ltb lent (16 * sumOver length (f .rows))) (ltb-false _ _)
     where
       by-test : (short : Bool) → (short ≡ false → 16 * sumOver length (f .rows) ≤ lent)
-          → Shows lent (cond short (unplayed 13) (playedOf f)) (cond short (refusedWith 13) (ranIf (accepted f)))
+          → Shows lent (cond short (unplayed 13) (playedOf f)) (cond short (refusedResult 13) (ranIf (accepted f)))
       by-test true enough = refused-shows 13
       by-test false enough = run-shows f (fits f refl) (enough refl)
 

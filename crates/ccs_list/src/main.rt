@@ -1,15 +1,31 @@
 // Lists the bench file on standard input.
+ghost use Prim.Native.Nat.{ℕ, _≤_};
+ghost use mathlib.Core.Path.{_≡_};
+ghost use mathlib.Core.List.{List};
+ghost use lib.ListN.{length, take};
+ghost use Rattle.bench_file.specs.Layout.{judgeOf};
+ghost use Rattle.listing.specs.Listing.{listingOf};
+ghost use Rattle.listing.specs.Promise.{enoughBytes};
 use libc::STDIN_FILENO;
 use libc::STDOUT_FILENO;
 
-// So many bytes decide the listing of an input: an accepted file has at most 34,075 (`listed-by-prefix` in proofs/Deciding.antt).
+// So many first bytes of an input decide its listing: an accepted file has at most 34,075.
 const DECIDING: usize = 34076;
 
+// The listing of an input, of whose first bytes as many were read as the buffer holds: its length.
+fn list_start(start: &[u8], read: usize, text: &mut [u8]) -> usize
+    requires { ⌜ (read ≤ length (now start)) × (length (now start) ≡ 34076) × (enoughBytes ≤ length (now text)) ⌝ }
+    ensures { λ r. ⌜ ((input : List ℕ) → take (length (now (start .entry))) input ≡ take read (now (start .entry)) → take r (now (text .exit)) ≡ listingOf (judgeOf input)) ⌝ }
+    ensures { λ r. ⌜ r ≤ length (now (text .entry)) ⌝ }
+{
+    let listed = listing::list(&start[..read], text);
+    listed.length
+}
+
 fn main() {
-    let mut file = [0u8; DECIDING];
+    let mut start = [0u8; DECIDING];
     let mut text = [0u8; listing::ENOUGH];
-    let read = io::read_full(STDIN_FILENO, &mut file);
-    let listed = listing::list(&file[..read], &mut text);
-    let length = listed.length;
+    let read = io::read_full(STDIN_FILENO, &mut start);
+    let length = list_start(&start, read, &mut text);
     io::write_all(STDOUT_FILENO, &text[..length]);
 }

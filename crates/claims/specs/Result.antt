@@ -1,4 +1,4 @@
--- The result of a file's run, from its bytes: what the service that runs a file answers, and the records that it writes.
+-- The result of a file's run, from its bytes: refusal, counts and records. What becomes of it with too few bytes lent is in bench/specs/Run.antt.
 use Prim.Native.Nat.{ℕ}
 use mathlib.Core.List.{List, [], reverse}
 use Rattle.bench_file.specs.Layout.{Judgement, accepted, refusedBy, judgeOf}
@@ -17,13 +17,13 @@ abbrev pub counted : ℕ → ℕ → ℕ → ℕ → ℕ → Counts
 counted records turns blanks spins remote = record { records = records; turns = turns; blanks = blanks; spins = spins; remote = remote }
 
 -- a refusal has its number, with all counts 0 and no record
-abbrev pub refusedWith : ℕ → Result
-refusedWith number = record { refusal = number; counts = counted 0 0 0 0 0; records = [] }
+abbrev pub refusedResult : ℕ → Result
+refusedResult number = record { refusal = number; counts = counted 0 0 0 0 0; records = [] }
 
 -- a file that is accepted is run
 abbrev pub ranIf : Judgement → Result
 ranIf (accepted f) = let run = reverse (entriesOf f) in record { refusal = 0; counts = countsOf run; records = recordsOf run }
-ranIf (refusedBy number) = refusedWith number
+ranIf (refusedBy number) = refusedResult number
 
 abbrev pub resultOf : List ℕ → Result
 resultOf bytes = ranIf (judgeOf bytes)

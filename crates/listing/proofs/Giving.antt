@@ -4,7 +4,7 @@ use native.Mathlib.Nat.{zero-add}
 use native.Mathlib.Omega.{arith}
 use mathlib.Core.Path.{_≡_, refl, ap, _∙_}
 use mathlib.Core.Bool.{Bool, true, false, cond}
-use mathlib.Core.List.{List}
+use mathlib.Core.List.{List, _++_}
 use lib.ListN.{length, take, drop}
 use lib.Seq.{take-at}
 use lib.Dec.{leb}
@@ -51,3 +51,15 @@ inside {words} {old} {r = r} g = rw (g .answer) (by-test (leb (length words) (le
 -- what is given of a file's listing is promised
 pub lists : (bytes : List ℕ) {words old new : List ℕ} {r : Listed} → words ≡ listingOf (judgeOf bytes) → Gives words old new r × (enoughBytes ≤ length old → r .refusal ≡ 0) → Lists bytes old new r
 lists bytes e (g, enough) = record { gives = rw (← e) g; enough = enough; inside = inside g }
+
+-- a buffer that is large enough holds the whole listing
+pub listed-whole : {bytes old new : List ℕ} {r : Listed} → Lists bytes old new r → enoughBytes ≤ length old → take (r .length) new ≡ listingOf (judgeOf bytes)
+listed-whole {bytes} {old} {new} {r} l room =
+    let words = listingOf (judgeOf bytes) in
+    let told = l .gives in
+    by-test (leb (length words) (length old)) (told .answer) (told .buffer) (l .enough room)
+  where
+    by-test : {words : List ℕ} (b : Bool) → r ≡ cond b (record { refusal = 0; length = length words }) (record { refusal = 13; length = 0 })
+        → new ≡ cond b (words ++ drop (length words) old) old → r .refusal ≡ 0 → take (r .length) new ≡ words
+    by-test {words = words} true answer buffer zero = rw (answer, buffer) (take-at words _ (length words) refl)
+    by-test false answer buffer zero = absurd (omega (arith, zero, ap (λ (a : Listed). a .refusal) answer))

@@ -1,3 +1,4 @@
+pub mod Examples
 pub mod Laid
 pub mod Listing
 pub mod Promise

@@ -1,4 +1,4 @@
--- `ccs_list::main` is safe: the listing lies within its buffer. Assumes nothing.
+-- `ccs_list::main` is safe: it lends as many bytes as decide and hold a listing. Assumes nothing.
 use native.Mathlib.Omega.{arith}
 use mathlib.Core.Path.{_≡_, sym}
 use lib.ListN.{length}
@@ -13,26 +13,23 @@ slice-aggregate-read-full c = search needs
 read-full-requires : tie.Need-read-full-requires
 read-full-requires c κs = search needs
 
-array-share-prefix-file : tie.Need-array-share-prefix-file
-array-share-prefix-file c = search needs
+slice-aggregate-list-start : tie.Need-slice-aggregate-list-start
+slice-aggregate-list-start c = search needs
 
-slice-aggregate-list : tie.Need-slice-aggregate-list
-slice-aggregate-list c = search needs
+slice-aggregate-list-start-2 : tie.Need-slice-aggregate-list-start-2
+slice-aggregate-list-start-2 c = search needs
 
-slice-aggregate-list-2 : tie.Need-slice-aggregate-list-2
-slice-aggregate-list-2 c = search needs
-
-list-requires : tie.Need-list-requires
-list-requires c κs = search needs
+list-start-requires : tie.Need-list-start-requires
+list-start-requires c κs = search needs
 
 array-share-prefix-text : tie.Need-array-share-prefix-text
 array-share-prefix-text c = search needs
 
 slice-aggregate-write-all : tie.Need-slice-aggregate-write-all
 slice-aggregate-write-all c =
-    let listed = c .before .before .list in
-    let long : length (listed .last .1 .0) ≡ 23677 = search needs in
-    sym (length-take-le (listed .result .length) (listed .last .1 .0) (omega (arith, listed .ensures .inside, long)))
+    let listed = c .before .before .list-start in
+    let long : length (listed .last .1 .1 .0) ≡ 23677 = search needs in
+    sym (length-take-le (listed .result) (listed .last .1 .1 .0) (omega (arith, listed .ensures .1, long)))
 
 write-all-requires : tie.Need-write-all-requires
 write-all-requires c κs = search needs
@@ -46,10 +43,9 @@ main-spec =
     (tie.spec
     slice-aggregate-read-full
     read-full-requires
-    array-share-prefix-file
-    slice-aggregate-list
-    slice-aggregate-list-2
-    list-requires
+    slice-aggregate-list-start
+    slice-aggregate-list-start-2
+    list-start-requires
     array-share-prefix-text
     slice-aggregate-write-all
     write-all-requires

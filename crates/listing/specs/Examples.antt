@@ -1,0 +1,10 @@
+-- The listing that document 01 prints for its 64-byte file.
+use Prim.Native.Nat.{ℕ}
+use mathlib.Core.List.{List, _++_}
+use Rattle.listing.specs.Text.{text}
+
+unfoldable pub sixtyFourListing : List ℕ
+sixtyFourListing =
+    text "CCS 1 counter n=1 h=1 calls=2 turns=2 blank=0 spin=0 remote=11\n"
+    ++ text "0 0 0 value 0 0 0 9 returned\n"
+    ++ text "1 0 1 value 5 0 1 2 returned\n"
