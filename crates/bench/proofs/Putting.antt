@@ -14,10 +14,10 @@ use Rattle.bench_writer.proofs.Pasted.{length-pasted, pasted-part, pasted-behin
 use Rattle.claims.specs.Terms.{Call}
 use Rattle.runner.specs.declared.Kept.{Kept}
 use Rattle.runner.specs.Kept.{callAt, unkept}
-use Rattle.bench.specs.Records.{recordBytes, recordAt, recordsIn}
+use Rattle.bench.specs.Records.{keptRecord, recordAt, recordsIn}
 use Rattle.bench.specs.Run.{written}
 
-record-length : (c : Call) (k : Kept) → length (recordBytes c k) ≡ 16
+record-length : (c : Call) (k : Kept) → length (keptRecord c k) ≡ 16
 unfolding lowFirst
 record-length c k = refl
 

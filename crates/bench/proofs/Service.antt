@@ -29,7 +29,7 @@ use Rattle.runner.specs.Played.{playedOf, unplayed, playedIn}
 use Rattle.runner.proofs.Tabled.{tabled-at}
 use Rattle.runner.proofs.Tables.{call-there}
 use Rattle.bench.specs.declared.Ran.{Ran}
-use Rattle.bench.specs.Records.{recordBytes, recordAt, recordsIn}
+use Rattle.bench.specs.Records.{keptRecord, recordAt, recordsIn}
 use Rattle.bench.specs.Run.{resultIn, written}
 use Rattle.bench.specs.Promise.{answerOf, Runs}
 
@@ -65,8 +65,8 @@ module _ (f : Fields) (fits : InRange f) where
   -- what is kept at its place gives its record
   record-there : (c : Call) → Placed c → recordAt (playedOf f .kept) (placeOf c) ≡ recordOf run c
   record-there c b =
-      ap (recordBytes (callAt (placeOf c))) (tabled-at (λ p. keptOf run (callAt p)) 256 (placeOf c) unkept (omega arith))
-      ∙ ap (λ (c : Call). recordBytes c (keptOf run c)) (call-there c (b .1))
+      ap (keptRecord (callAt (placeOf c))) (tabled-at (λ p. keptOf run (callAt p)) 256 (placeOf c) unkept (omega arith))
+      ∙ ap (λ (c : Call). keptRecord c (keptOf run c)) (call-there c (b .1))
 
   records-there : recordsIn (howMany 5 run) (playedOf f .kept) (playedOf f .order) ≡ recordsOf run
   records-there =

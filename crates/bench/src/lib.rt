@@ -8,7 +8,7 @@ ghost use Rattle.bench_file.specs.Bytes.{lowFirst};
 ghost use Rattle.step.specs.Entry.{oneIf};
 ghost use Rattle.runner.specs.Kept.{callAt};
 ghost use Rattle.bench.specs.Promise.{Runs};
-ghost use Rattle.bench.specs.Records.{recordBytes, recordsIn};
+ghost use Rattle.bench.specs.Records.{keptRecord, recordsIn};
 ghost use Rattle.bench.specs.Run.{written};
 
 // Refusal 0 with the five counts, or a refusal's number with all counts 0.
@@ -39,7 +39,7 @@ fn returned_byte(returned: bool) -> u8
 // The record of the call that has a place.
 fn record_bytes(place: u16, kept: Kept) -> [u8; 16]
     requires { ⌜ place < 256 ⌝ }
-    ensures { λ r. ⌜ r ≡ recordBytes (callAt place) kept ⌝ }
+    ensures { λ r. ⌜ r ≡ keptRecord (callAt place) kept ⌝ }
 {
     let value = low_first(kept.value);
     let remote = low_first(kept.remote);

@@ -119,12 +119,16 @@ abbrev pub retValue : RetVal → ℕ
 retValue NoAnswer = 0
 retValue (Answered answer) = answerValue answer
 
--- the record of a call, its 16 bytes
+-- a record, its 16 bytes, from thread, request, mark, serving thread, value, remote references, whether the call has returned, and turn
+abbrev pub recordBytes : ℕ → ℕ → ℕ → ℕ → ℕ → ℕ → Bool → ℕ → List ℕ
+recordBytes thread request mark server value remote over turn =
+    thread ∷ request ∷ mark ∷ server ∷ lowFirst 4 value ++ lowFirst 4 remote ++ oneIf over ∷ lowFirst 2 turn ++ 0 ∷ []
+
+-- the record of a call
 abbrev pub recordOf : List Entry → Call → List ℕ
 recordOf run c =
     let w = shownOf c (servings run) in
-    c .thread ∷ c .request ∷ retMark (w .ret) ∷ w .server ∷ lowFirst 4 (retValue (w .ret)) ++ lowFirst 4 (costOf c run)
-    ++ oneIf (returned c run) ∷ lowFirst 2 (w .turn) ++ 0 ∷ []
+    recordBytes (c .thread) (c .request) (retMark (w .ret)) (w .server) (retValue (w .ret)) (costOf c run) (returned c run) (w .turn)
 
 -- one record for each Swap, in Swap order
 abbrev pub recordsOf : List Entry → List (List ℕ)

@@ -6,7 +6,7 @@ use lib.ListN.{length, getD, length-take, length-drop}
 use borrow.Author.Needs.{needs}
 use Rattle.runner.specs.Kept.{callAt, unkept}
 use Rattle.claims.proofs.Places.{getD-any}
-use Rattle.bench.specs.Records.{recordBytes, recordAt}
+use Rattle.bench.specs.Records.{keptRecord, recordAt}
 use Rattle.bench.proofs.Putting.{sixteen, RecordsLaid, lays-none, lays, lays-all}
 use Rattle.bench.proofs.put_records.Statement.{statement}
 use Rattle.bench.proofs.put_records.Tie as tie
@@ -57,7 +57,7 @@ answered : (c : tie.After-record-bytes Inv-loop μ-loop) → c .record-bytes .re
 answered c =
     let at = c .before .before in
     c .record-bytes .ensures
-    ∙ ap (recordBytes (callAt (placeIn at))) (getD-any (given at .args .t3) (placeIn at) _ unkept (omega (arith, place-below at, kept-long (given at))))
+    ∙ ap (keptRecord (callAt (placeIn at))) (getD-any (given at .args .t3) (placeIn at) _ unkept (omega (arith, place-below at, kept-long (given at))))
 
 record-bytes-requires : tie.Need-record-bytes-requires Inv-loop μ-loop
 record-bytes-requires c κs = place-below (c .before)
