@@ -24,7 +24,7 @@ use Rattle.claims.proofs.Places.{map-at}
 use Rattle.claims.proofs.Room.{all-swaps-asked, all-swaps-few}
 use Rattle.claims.proofs.Theorem.{holds-whole, demand-3-of-files}
 use Rattle.runner.specs.declared.Played.{Played}
-use Rattle.runner.specs.Kept.{placeOf, callAt, keptOf, unkept}
+use Rattle.kept.specs.Kept.{placeOf, callAt, keptOf, unkept}
 use Rattle.runner.specs.Played.{playedOf, unplayed, playedIn}
 use Rattle.runner.proofs.Tabled.{tabled-at}
 use Rattle.runner.proofs.Tables.{call-there}

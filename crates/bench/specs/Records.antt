@@ -3,8 +3,8 @@ use Prim.Native.Nat.{ℕ}
 use mathlib.Core.List.{List, map}
 use lib.ListN.{getD, take}
 use Rattle.claims.specs.Terms.{Call, recordBytes}
-use Rattle.runner.specs.declared.Kept.{Kept}
-use Rattle.runner.specs.Kept.{callAt, unkept}
+use Rattle.kept.specs.declared.Kept.{Kept}
+use Rattle.kept.specs.Kept.{callAt, unkept}
 
 -- the record of a call
 abbrev pub keptRecord : Call → Kept → List ℕ

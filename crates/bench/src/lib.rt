@@ -1,12 +1,12 @@
 // Runs a bench file: its counts and the records of its calls, in Swap order, in a lent buffer.
-use runner::Kept;
+use kept::Kept;
 use state::Counts;
 ghost use Prim.Native.Nat.{ℕ, _*_, _≤_, _<_};
 ghost use mathlib.Core.Path.{_≡_};
 ghost use lib.ListN.{length, getD};
 ghost use Rattle.bench_file.specs.Bytes.{lowFirst};
 ghost use Rattle.step.specs.Entry.{oneIf};
-ghost use Rattle.runner.specs.Kept.{callAt};
+ghost use Rattle.kept.specs.Kept.{callAt};
 ghost use Rattle.bench.specs.Promise.{Runs};
 ghost use Rattle.bench.specs.Records.{keptRecord, recordsIn};
 ghost use Rattle.bench.specs.Run.{written};

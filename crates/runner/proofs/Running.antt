@@ -41,9 +41,9 @@ use Rattle.claims.proofs.Layers.{Layers, stays, layers-next}
 use Rattle.claims.proofs.Room.{all-swaps-few}
 use Rattle.claims.proofs.Run.{Going, going-next}
 use Rattle.claims.proofs.Theorem.{run-layers}
-use Rattle.runner.specs.declared.Kept.{Kept}
+use Rattle.kept.specs.declared.Kept.{Kept}
 use Rattle.runner.specs.declared.Played.{Played}
-use Rattle.runner.specs.Kept.{callAt, keptOf, unkept, afterEntry, afterServing}
+use Rattle.kept.specs.Kept.{callAt, keptOf, unkept, afterEntry, afterServing}
 use Rattle.runner.specs.Played.{fieldsIn, Startable, playedOf}
 use Rattle.runner.proofs.Tabled.{is-tabled}
 use Rattle.runner.proofs.Tables.{Tables, tables-start, place, served, enteredCalls, servedCalls, orderAfter, givenAfter, turnsAfter, place-below, served-below, tables-next}
@@ -130,7 +130,7 @@ module _ (f : Fields) (bytes : List ℕ) (fits : InRange f) where
     pub record Booked (d : Kept) (k : ℕ) (m : NodeId) (answer : Answer) (e : Effect) (remote call served : ℕ) (order′ given′ turns′ : List ℕ) (mine theirs : Kept) : Type 0 where
       pub of-call : call ≡ 16 * t .0 + (e .thread .begun - 1)
       pub of-served : served ≡ cond (eqb k 16) (getD given (m .0) 0) call
-      pub of-turns : turns′ ≡ set turns (t .0) (cond (eqb k 12) (s .counts .turns % 65536) (getD turns (t .0) 0))
+      pub of-turns : turns′ ≡ cond (eqb k 12) (set turns (t .0) (s .counts .turns % 65536)) turns
       pub of-given : given′ ≡ cond (eqb k 5) (set given (s .tail .0) (call % 65536)) given
       pub of-order : order′ ≡ cond (eqb k 5) (set order (s .counts .records) (call % 65536)) order
       pub of-mine : mine ≡ afterEntry (getD kept call d) k remote

@@ -3,7 +3,7 @@ use Prim.Native.Nat.{ℕ, _+_, _-_, _*_, _%_, _^_, _≤_, _<_}
 use native.Mathlib.Omega.{arith}
 use native.Mathlib.Nat.{mod-eq-of-lt, div-add-mod}
 use mathlib.Core.Path.{_≡_, refl, sym, ap, ap₂, subst, _∙_}
-use mathlib.Core.Bool.{Bool, true, false, cond, _&&_, _||_}
+use mathlib.Core.Bool.{and-false, Bool, true, false, cond, _&&_, _||_}
 use mathlib.Core.List.{List, [], _∷_, _++_, map, map-append, append-nil}
 use lib.ListN.{length, getD, set, replicate, length-map, length-set, getD-replicate}
 use lib.Seq.{getD-set-same, getD-set-other, set-getD}
@@ -39,8 +39,8 @@ use Rattle.claims.proofs.Run.{Going}
 use Rattle.claims.proofs.Served.{shown-none}
 use Rattle.claims.proofs.Steps.{one-sound}
 use Rattle.claims.proofs.Swaps.{of-last, serves-next}
-use Rattle.runner.specs.declared.Kept.{Kept}
-use Rattle.runner.specs.Kept.{placeOf, callAt, keptOf, unkept, afterEntry, afterServing}
+use Rattle.kept.specs.declared.Kept.{Kept}
+use Rattle.kept.specs.Kept.{placeOf, callAt, keptOf, unkept, afterEntry, afterServing}
 
 -- what the arrays say of the entries so far, the latest first
 pub record Tables (past : List Entry) (kept : List Kept) (order given turns : List ℕ) : Type 0 where
@@ -129,7 +129,7 @@ module _ (s : State) (t : ThreadId) where
   givenAfter given = cond (eqb (line s t) 5) (set given (s .tail .0) (place % 65536)) given
 
   abbrev pub turnsAfter : List ℕ → List ℕ
-  turnsAfter turns = set turns (t .0) (cond (eqb (line s t) 12) (s .counts .turns % 65536) (getD turns (t .0) 0))
+  turnsAfter turns = cond (eqb (line s t) 12) (set turns (t .0) (s .counts .turns % 65536)) turns
 
 module _ (f : Fields) (fits : InRange f) (s : State) (past : List Entry) (t : ThreadId) (below : t .0 < s .n) (going : Going f s past) (now : Layers f s past) (short : length past < 32768) where
   abbrev e : Entry
@@ -269,8 +269,8 @@ module _ (f : Fields) (fits : InRange f) (s : State) (past : List Entry) (t : Th
   given-by m b is = ap (λ (b : Bool). cond b (callOf e past) (callGiven m past)) is
 
   -- and the turn that a thread began last
-  turn-by : (u : ℕ) (b : Bool) → eqb (t .0) u ≡ b → turnOf u (e ∷ past) ≡ cond (b && eqb (line s t) 12) (howMany 12 past) (turnOf u past)
-  turn-by u b is = ap (λ (b : Bool). cond (b && eqb (line s t) 12) (howMany 12 past) (turnOf u past)) is
+  turn-by : (u : ℕ) (b : Bool) → (eqb (t .0) u && eqb (line s t) 12) ≡ b → turnOf u (e ∷ past) ≡ cond b (howMany 12 past) (turnOf u past)
+  turn-by u b is = ap (λ (b : Bool). cond b (howMany 12 past) (turnOf u past)) is
 
   -- the turns begun so far number the next
   turns-begun : s .counts .turns % 65536 ≡ howMany 12 past
@@ -305,10 +305,13 @@ module _ (f : Fields) (fits : InRange f) (s : State) (past : List Entry) (t : Th
 
     threads-next : (u : ℕ) → u < 16 → getD (turnsAfter s t turns) u 0 ≡ turnOf u (e ∷ past)
     threads-next u b =
+        by-line (λ (l : List ℕ). getD l u 0 ≡ turnOf u (e ∷ past)) 12 _ turns
+        (λ q.
         set-all (λ u k. k ≡ turnOf u (e ∷ past)) turns (t .0) _ 0 (omega (arith, few, tables .threads-long))
-        (ap₂ (cond (eqb (line s t) 12)) turns-begun (tables .threads (t .0) (omega (arith, few))) ∙ sym (turn-by (t .0) true (eq-eqb (t .0) (t .0) refl)))
+        (turns-begun ∙ sym (turn-by (t .0) true (rw (eq-eqb (line s t) 12 q, eq-eqb (t .0) (t .0) refl))))
         u
-        (λ apart. tables .threads u b ∙ sym (turn-by u false (ne-eqb (t .0) u (λ z. apart (sym z)))))
+        (λ apart. tables .threads u b ∙ sym (turn-by u false (rw (ne-eqb (t .0) u (λ z. apart (sym z)))))))
+        (λ q. tables .threads u b ∙ sym (turn-by u false (rw (ne-eqb (line s t) 12 q) (and-false (eqb (t .0) u)))))
 
     swaps-next : (line s t ≡ 5 → s .counts .records < 256) → orderAfter s t order ≡ filled 256 0 (map placeOf (swapOrder (e ∷ past)))
     swaps-next room =
@@ -365,7 +368,7 @@ module _ (f : Fields) (fits : InRange f) (s : State) (past : List Entry) (t : Th
       tables-next room = record {
         calls-long = length-set kept′ (served s t given) _ ∙ entered-long;
         nodes-long = by-line (λ (l : List ℕ). length l ≡ 17) 5 _ given (λ q. length-set given (s .tail .0) _ ∙ tables .nodes-long) (λ q. tables .nodes-long);
-        threads-long = length-set turns (t .0) _ ∙ tables .threads-long;
+        threads-long = by-line (λ (l : List ℕ). length l ≡ 16) 12 _ turns (λ q. length-set turns (t .0) _ ∙ tables .threads-long) (λ q. tables .threads-long);
         calls = calls-next;
         swaps = swaps-next room;
         nodes = nodes-next;

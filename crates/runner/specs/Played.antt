@@ -14,7 +14,7 @@ use Rattle.claims.specs.Entries.{Entry, filled, startOf, entriesOf}
 use Rattle.claims.specs.Terms.{swapOrder, countsOf}
 use Rattle.claims.specs.Result.{counted}
 use Rattle.runner.specs.declared.Played.{Played}
-use Rattle.runner.specs.Kept.{placeOf, callAt, keptOf, unkept}
+use Rattle.kept.specs.Kept.{placeOf, callAt, keptOf, unkept}
 
 -- the fields of an accepted file; of a refused one none
 abbrev pub fieldsOf : Judgement → Fields

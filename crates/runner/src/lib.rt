@@ -1,33 +1,12 @@
 // A bench file's run from its fresh machine, in place: one local state stepped entry by entry, and what a record needs kept of each call.
-ghost use Prim.Native.Nat.{_%_, _<_};
 ghost use mathlib.Core.Path.{_≡_};
-ghost use mathlib.Core.Bool.{cond};
-ghost use lib.ListN.{getD, set};
-ghost use lib.Dec.{eqb};
 ghost use Rattle.bench_file.specs.Layout.{judgeOf};
-ghost use Rattle.runner.specs.Kept.{unkept, afterEntry, afterServing};
 ghost use Rattle.runner.specs.Played.{fieldsIn, Startable, playedOf, unplayed, playedIn};
-use machine::NodeId;
+use kept::Kept;
 use machine::ThreadId;
 use object::Answer;
 use state::Counts;
 use state::State;
-
-// What a run keeps of a call for its record.
-pub struct Kept {
-    pub mark: u8,
-    pub server: u8,
-    pub value: u32,
-    pub remote: u32,
-    pub returned: bool,
-    pub turn: u16,
-}
-
-// The place of no call: that of request 255 of thread 255.
-const NO_CALL: u16 = 16 * 255 + 255;
-
-// No turn: of a thread that has begun none, and of a call that is not served.
-const NO_TURN: u16 = 65535;
 
 // A run: refusal 0 with the five counts, what is kept of each call, by its place, and the places in Swap order; or a refusal's number, with
 // all counts 0 and nothing kept.
@@ -36,101 +15,6 @@ pub struct Played {
     pub counts: Counts,
     pub kept: [Kept; 256],
     pub order: [u16; 256],
-}
-
-// Of a call of which no entry is.
-fn unkept() -> Kept
-    ensures { λ r. ⌜ r ≡ unkept ⌝ }
-{
-    Kept {
-        mark: 255,
-        server: 255,
-        value: 0,
-        remote: 0,
-        returned: false,
-        turn: NO_TURN,
-    }
-}
-
-// The entry's call: its remote references, and whether it has returned.
-fn after_entry(kept: Kept, line: u8, remote: u8) -> Kept
-    ensures { λ r. ⌜ r ≡ afterEntry kept line remote ⌝ }
-{
-    let mut after = kept;
-    after.remote = std::num::wrapping_add_u32(kept.remote, remote as u32);
-    after.returned = (line == 11) | (line == 21) | kept.returned;
-    after
-}
-
-// The call that the entry serves, at line 16: its answer, by which thread and in which turn.
-fn after_serving(kept: Kept, serves: bool, answer: Answer, server: ThreadId, turn: u16) -> Kept
-    ensures { λ r. ⌜ r ≡ afterServing kept serves answer (server .0) turn ⌝ }
-{
-    if serves {
-        return Kept {
-            mark: object::answer_mark(answer),
-            server: server.0,
-            value: object::answer_value(answer),
-            remote: kept.remote,
-            returned: kept.returned,
-            turn,
-        };
-    }
-    kept
-}
-
-// A thread's turn: line 12 begins one, numbered by those begun before.
-fn turn_after(turn: u16, begins: bool, turns: u32) -> u16
-    ensures { λ r. ⌜ r ≡ cond begins (turns % 65536) turn ⌝ }
-{
-    if begins {
-        return (turns % 65536) as u16;
-    }
-    turn
-}
-
-// The place of the call that line 16 serves, which the node was given to; else that of the entry's call.
-fn served_place(serves: bool, given: u16, place: usize) -> usize
-    ensures { λ r. ⌜ r ≡ cond serves given place ⌝ }
-{
-    if serves {
-        return given as usize;
-    }
-    place
-}
-
-// A Swap notes the place of its call, with Tail's node or next in Swap order.
-fn note_swap(places: &mut [u16], at: usize, swaps: bool, place: usize)
-    ensures { λ r. ⌜ now (places .exit) ≡ cond swaps (set (now (places .entry)) at (place % 65536)) (now (places .entry)) ⌝ }
-{
-    if swaps {
-        if at < places.len() {
-            places[at] = (place % 65536) as u16;
-        }
-    }
-}
-
-// What an entry notes of its call: line 12 the thread's turn, a Swap the call that has Tail's node, and its place in Swap order.
-fn note(
-    turns: &mut [u16; 16],
-    given: &mut [u16; 17],
-    order: &mut [u16; 256],
-    line: u8,
-    thread: ThreadId,
-    tail: NodeId,
-    counts: Counts,
-    place: usize,
-)
-    requires { ⌜ thread .0 < 16 ⌝ }
-    ensures { λ r. ⌜ now (turns .exit) ≡ set (now (turns .entry)) (thread .0) (cond (eqb line 12) (counts .turns % 65536) (getD (now (turns .entry)) (thread .0) 0)) ⌝ }
-    ensures { λ r. ⌜ now (given .exit) ≡ cond (eqb line 5) (set (now (given .entry)) (tail .0) (place % 65536)) (now (given .entry)) ⌝ }
-    ensures { λ r. ⌜ now (order .exit) ≡ cond (eqb line 5) (set (now (order .entry)) (counts .records) (place % 65536)) (now (order .entry)) ⌝ }
-{
-    let t = thread.0 as usize;
-    let turn = turns[t];
-    turns[t] = turn_after(turn, line == 12, counts.turns);
-    note_swap(given, tail.0 as usize, line == 5, place);
-    note_swap(order, counts.records as usize, line == 5, place);
 }
 
 // The run of a file from its fresh machine, in place. The schedule stands from a place on to the file's end.
@@ -144,10 +28,10 @@ fn from_start(file: &[u8], schedule: usize, start: State) -> Played
     let kind = start.kind;
     let capacity = start.capacity;
     let mut state = start;
-    let mut kept = [unkept(); 256];
+    let mut kept = [kept::unkept(); 256];
     let mut order = [0u16; 256];
-    let mut given = [NO_CALL; 17];
-    let mut turns = [NO_TURN; 16];
+    let mut given = [kept::NO_CALL; 17];
+    let mut turns = [kept::NO_TURN; 16];
     let mut i = schedule;
     while i < file.len() {
         let thread = ThreadId(file[i]);
@@ -186,8 +70,8 @@ fn from_start(file: &[u8], schedule: usize, start: State) -> Played
         state.counts = counts_after;
         let call = step::call_place(thread, thread_after.begun);
         let turn = turns[t];
-        let served = served_place(line == 16, given[m], call);
-        note(
+        let served = kept::served_place(line == 16, given[m], call);
+        kept::note_entry(
             &mut turns,
             &mut given,
             &mut order,
@@ -198,9 +82,9 @@ fn from_start(file: &[u8], schedule: usize, start: State) -> Played
             call,
         );
         let mine = kept[call];
-        kept[call] = after_entry(mine, line, remote);
+        kept[call] = kept::after_entry(mine, line, remote);
         let theirs = kept[served];
-        kept[served] = after_serving(theirs, line == 16, answer, thread, turn);
+        kept[served] = kept::after_serving(theirs, line == 16, answer, thread, turn);
         i += 1;
     }
     let counts = state.counts;
@@ -225,7 +109,7 @@ fn unplayed(number: u8) -> Played
             spins: 0,
             remote: 0,
         },
-        kept: [unkept(); 256],
+        kept: [kept::unkept(); 256],
         order: [0u16; 256],
     }
 }

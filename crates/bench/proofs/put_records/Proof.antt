@@ -4,7 +4,7 @@ use native.Mathlib.Omega.{arith}
 use mathlib.Core.Path.{_≡_, ap, _∙_}
 use lib.ListN.{length, getD, length-take, length-drop}
 use borrow.Author.Needs.{needs}
-use Rattle.runner.specs.Kept.{callAt, unkept}
+use Rattle.kept.specs.Kept.{callAt, unkept}
 use Rattle.claims.proofs.Places.{getD-any}
 use Rattle.bench.specs.Records.{keptRecord, recordAt}
 use Rattle.bench.proofs.Putting.{sixteen, RecordsLaid, lays-none, lays, lays-all}

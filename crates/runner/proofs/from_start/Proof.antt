@@ -254,8 +254,8 @@ array-read-served-place c = node-below (node-of (counted c))
 served-place-requires : tie.Need-served-place-requires Inv-loop μ-loop
 served-place-requires c κs = search needs
 
-note-requires : tie.Need-note-requires Inv-loop μ-loop
-note-requires c κs = thread-below (entry-of (counted (c .before .before .before .before)))
+note-entry-requires : tie.Need-note-entry-requires Inv-loop μ-loop
+note-entry-requires c κs = search needs
 
 mul-mine : tie.Need-mul-mine Inv-loop μ-loop
 mul-mine c = omega (arith, call-small (c .before .before .before .before .before))
@@ -302,7 +302,7 @@ loop-again c =
     let call = call-of c in
     let more = counted call in
     let at = entry-of more in
-    let noted = c .before .before .before .before .note .ensures in
+    let noted = c .before .before .before .before .note-entry .ensures in
     looping-next (at .before .loop .inv) (at .loop-test .taken) (called more) (serves (joined more)) (call .before .plus .ensures)
     (record {
       of-call = call .call-place2 .ensures;
@@ -356,7 +356,7 @@ from-start-spec =
     mul-served-place
     array-read-served-place
     served-place-requires
-    note-requires
+    note-entry-requires
     mul-mine
     array-copy-out-mine
     after-entry-requires

@@ -3,7 +3,7 @@ use mathlib.Core.Path.{ap}
 use lib.ListN.{replicate}
 use borrow.Author.Needs.{needs}
 use Rattle.claims.specs.Result.{counted}
-use Rattle.runner.specs.declared.Kept.{Kept}
+use Rattle.kept.specs.declared.Kept.{Kept}
 use Rattle.runner.proofs.unplayed.Statement.{statement}
 use Rattle.runner.proofs.unplayed.Tie as tie
 

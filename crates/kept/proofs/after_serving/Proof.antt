@@ -1,7 +1,7 @@
--- `runner::after_serving` meets its contract. Assumes nothing.
+-- `kept::after_serving` meets its contract. Assumes nothing.
 use borrow.Author.Needs.{needs}
-use Rattle.runner.proofs.after_serving.Statement.{statement}
-use Rattle.runner.proofs.after_serving.Tie as tie
+use Rattle.kept.proofs.after_serving.Statement.{statement}
+use Rattle.kept.proofs.after_serving.Tie as tie
 
 answer-mark-requires : tie.Need-answer-mark-requires
 answer-mark-requires c κs = search needs

@@ -1,7 +1,7 @@
--- `runner::after_entry` meets its contract. Assumes nothing.
+-- `kept::after_entry` meets its contract. Assumes nothing.
 use borrow.Author.Needs.{needs}
-use Rattle.runner.proofs.after_entry.Statement.{statement}
-use Rattle.runner.proofs.after_entry.Tie as tie
+use Rattle.kept.proofs.after_entry.Statement.{statement}
+use Rattle.kept.proofs.after_entry.Tie as tie
 
 wrapping-add-u32-requires : tie.Need-wrapping-add-u32-requires
 wrapping-add-u32-requires c κs = search needs

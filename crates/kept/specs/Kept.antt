@@ -1,4 +1,4 @@
--- What a run keeps of each call while it goes, and where: a call has one of 256 places, 16 for each thread.
+-- What a run keeps of each call while it goes, and where: a call has one of 256 numbers, 16 for each thread.
 use Prim.Native.Nat.{ℕ, _+_, _*_, _/_, _%_, _^_}
 use mathlib.Core.Bool.{Bool, false, cond, _||_}
 use mathlib.Core.List.{List}
@@ -7,7 +7,7 @@ use Rattle.object.specs.declared.Answer.{Answer}
 use Rattle.object.specs.Paper.{answerMark, answerValue}
 use Rattle.claims.specs.Entries.{Entry}
 use Rattle.claims.specs.Terms.{Call, servings, costOf, returned, shownOf, retMark, retValue}
-use Rattle.runner.specs.declared.Kept.{Kept}
+use Rattle.kept.specs.declared.Kept.{Kept}
 
 -- the place of a call, and the call of a place
 abbrev pub placeOf : Call → ℕ

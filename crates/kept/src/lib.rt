@@ -1,0 +1,109 @@
+// What a run keeps of each call while it goes, and of whose call each node is.
+ghost use Prim.Native.Nat.{_+_, _-_, _*_, _%_};
+ghost use mathlib.Core.Path.{_≡_};
+ghost use mathlib.Core.Bool.{cond};
+ghost use lib.ListN.{set};
+ghost use lib.Dec.{eqb};
+ghost use Rattle.kept.specs.Kept.{unkept, afterEntry, afterServing};
+use machine::NodeId;
+use machine::ThreadId;
+use object::Answer;
+use state::Counts;
+
+// What a run keeps of a call for its record.
+pub struct Kept {
+    pub mark: u8,
+    pub server: u8,
+    pub value: u32,
+    pub remote: u32,
+    pub returned: bool,
+    pub turn: u16,
+}
+
+// The place of no call: that of request 255 of thread 255.
+pub const NO_CALL: u16 = 16 * 255 + 255;
+
+// No turn: of a thread that has begun none, and of a call that is not served.
+pub const NO_TURN: u16 = 65535;
+
+// Of a call of which no entry is.
+pub fn unkept() -> Kept
+    ensures { λ r. ⌜ r ≡ unkept ⌝ }
+{
+    Kept {
+        mark: 255,
+        server: 255,
+        value: 0,
+        remote: 0,
+        returned: false,
+        turn: NO_TURN,
+    }
+}
+
+// The entry's call: its remote references, and whether it has returned.
+pub fn after_entry(kept: Kept, line: u8, remote: u8) -> Kept
+    ensures { λ r. ⌜ r ≡ afterEntry kept line remote ⌝ }
+{
+    let mut after = kept;
+    after.remote = std::num::wrapping_add_u32(kept.remote, remote as u32);
+    after.returned = (line == 11) | (line == 21) | kept.returned;
+    after
+}
+
+// The call that the entry serves, at line 16: its answer, by which thread and in which turn.
+pub fn after_serving(kept: Kept, serves: bool, answer: Answer, server: ThreadId, turn: u16) -> Kept
+    ensures { λ r. ⌜ r ≡ afterServing kept serves answer (server .0) turn ⌝ }
+{
+    if serves {
+        return Kept {
+            mark: object::answer_mark(answer),
+            server: server.0,
+            value: object::answer_value(answer),
+            remote: kept.remote,
+            returned: kept.returned,
+            turn,
+        };
+    }
+    kept
+}
+
+// The place of the call that line 16 serves, which the node was given to; else that of the entry's call.
+pub fn served_place(serves: bool, given: u16, place: usize) -> usize
+    ensures { λ r. ⌜ r ≡ cond serves given place ⌝ }
+{
+    if serves {
+        return given as usize;
+    }
+    place
+}
+
+// Notes a number at a place, or not.
+fn note(numbers: &mut [u16], at: usize, notes: bool, number: usize)
+    ensures { λ r. ⌜ now (numbers .exit) ≡ cond notes (set (now (numbers .entry)) at (number % 65536)) (now (numbers .entry)) ⌝ }
+{
+    if notes {
+        if at < numbers.len() {
+            numbers[at] = (number % 65536) as u16;
+        }
+    }
+}
+
+// What an entry notes: line 12 its thread's turn, numbered by those begun before; a Swap the place of its call, with Tail's node and next in Swap order.
+pub fn note_entry(
+    turns: &mut [u16; 16],
+    given: &mut [u16; 17],
+    order: &mut [u16; 256],
+    line: u8,
+    thread: ThreadId,
+    tail: NodeId,
+    counts: Counts,
+    place: usize,
+)
+    ensures { λ r. ⌜ now (turns .exit) ≡ cond (eqb line 12) (set (now (turns .entry)) (thread .0) (counts .turns % 65536)) (now (turns .entry)) ⌝ }
+    ensures { λ r. ⌜ now (given .exit) ≡ cond (eqb line 5) (set (now (given .entry)) (tail .0) (place % 65536)) (now (given .entry)) ⌝ }
+    ensures { λ r. ⌜ now (order .exit) ≡ cond (eqb line 5) (set (now (order .entry)) (counts .records) (place % 65536)) (now (order .entry)) ⌝ }
+{
+    note(turns, thread.0 as usize, line == 12, counts.turns as usize);
+    note(given, tail.0 as usize, line == 5, place);
+    note(order, counts.records as usize, line == 5, place);
+}
