@@ -1,4 +1,4 @@
--- A loop that lays the records into a buffer, one a turn: the buffer after i of them. Assumes nothing.
+-- A loop that lays the records into a buffer, one a pass: the buffer after i of them. Assumes nothing.
 use Prim.Native.Nat.{ℕ, _+_, _-_, _*_, _≤_, _<_}
 use native.Mathlib.Nat.{zero-add}
 use native.Mathlib.Numerals.{add-one}

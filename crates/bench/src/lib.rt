@@ -80,7 +80,8 @@ fn put_records(out: &mut [u8], count: usize, kept: [Kept; 256], order: [u16; 256
     }
 }
 
-// Runs any bytes as a bench file. The records stand in Swap order from the buffer's first byte on; a refusal has none.
+// Runs any bytes as a bench file; 13 where fewer than 16 bytes are lent for each request in the file. The records stand in Swap order from the
+// buffer's first byte on; a refusal has none.
 pub fn run(file: &[u8], out: &mut [u8]) -> Ran
     ensures { λ r. ⌜ Runs (now (file .entry)) (now (out .entry)) (now (out .exit)) r ⌝ }
 {

@@ -1,4 +1,4 @@
--- The first 34,076 bytes of an input decide how it is judged, and an accepted file has at most 34,075. Assumes nothing.
+-- The first 34,076 bytes of an input decide how it is judged, and an accepted file has at most 34,075. Assumes for the second that the bytes are bytes.
 use Prim.Native.Nat.{ℕ, zero, suc, _+_, _-_, _*_, _≤_}
 use native.Mathlib.Nat.{suc-mul}
 use native.Mathlib.Decide.{decLe}

@@ -13,7 +13,7 @@ use Rattle.bench_file.specs.declared.Reached.{Reached}
 use Rattle.bench_file.specs.declared.Reached.the-variants as Reached
 use Rattle.bench_file.specs.declared.Judged.{Judged}
 use Rattle.bench_file.specs.declared.Judged.the-variants as Judged
-use Rattle.bench_file.specs.Layout.{scheduleReader}
+use Rattle.bench_file.specs.Layout.{Fields, scheduleReader}
 use Rattle.bench_file.specs.Reading.{Outcome, refused, read}
 
 -- a refusal's number, or 0 and the place where reading goes on
@@ -63,6 +63,10 @@ tallied tally (read a rest) = read (tally a) rest
 unfoldable pub sumOver : {A : Type 0} → (A → ℕ) → List A → ℕ
 sumOver tally [] = 0
 sumOver tally (a ∷ l) = tally a + sumOver tally l
+
+-- how many requests are in a file, performed or not
+abbrev pub requestsOf : Fields → ℕ
+requestsOf f = sumOver length (f .rows)
 
 -- each counts 1
 abbrev pub one : {A : Type 0} → A → ℕ

@@ -8,11 +8,11 @@ use Rattle.bench_file.specs.declared.Judged.{Judged}
 use Rattle.bench_file.specs.declared.Judged.the-variants as Judged
 use Rattle.bench_file.specs.Layout.{Fields, Judgement, accepted, refusedBy, judgeOf}
 use Rattle.bench_file.specs.Bytes.{InRange, bytesOf}
-use Rattle.bench_file.specs.Cursor.{sumOver}
+use Rattle.bench_file.specs.Cursor.{requestsOf}
 
 -- the answer for a judgement: head, requests in all and entries of the fields, or the refusal
 abbrev pub judgedAs : Judgement → Judged
-judgedAs (accepted f) = Judged.Accepted (f .head) (sumOver length (f .rows)) (length (f .schedule))
+judgedAs (accepted f) = Judged.Accepted (f .head) (requestsOf f) (length (f .schedule))
 judgedAs (refusedBy refusal) = Judged.Refused refusal
 
 -- the refusal's number, 0 for none; a refusal has all counts 0
@@ -34,7 +34,7 @@ pub record Judges (bytes : List ℕ) (r : Judged) : Type 0 where
   -- accepted with given fields exactly if they are in range and the file is their bytes
   pub exactly : (f : Fields) → (judgeOf bytes ≡ accepted f) ↔ (InRange f × (bytesOf f ≡ bytes))
   -- its counts are the requests and the entries of the fields; a refusal has its number, and all counts 0
-  pub counts : (f : Fields) → judgeOf bytes ≡ accepted f → (judgedRequests r ≡ sumOver length (f .rows)) × (judgedEntries r ≡ length (f .schedule))
+  pub counts : (f : Fields) → judgeOf bytes ≡ accepted f → (judgedRequests r ≡ requestsOf f) × (judgedEntries r ≡ length (f .schedule))
   pub refused : (refusal : ℕ) → judgeOf bytes ≡ refusedBy refusal → (judgedRefusal r ≡ refusal) × (judgedRequests r ≡ 0) × (judgedEntries r ≡ 0)
   -- a refusal's number is one of the table, 1 to 12, so that 0 means accepted
   pub numbers : judgedRefusal r ≤ 12

@@ -12,7 +12,7 @@ use libc::STDOUT_FILENO;
 // So many first bytes of an input decide its listing: an accepted file has at most 34,075.
 const DECIDING: usize = 34076;
 
-// The listing of an input, of whose first bytes as many were read as the buffer holds: its length.
+// Lists an input of which the first bytes were read: all, or as many as the buffer holds. Answers the length of the listing.
 fn list_start(start: &[u8], read: usize, text: &mut [u8]) -> usize
     requires { ⌜ (read ≤ length (now start)) × (length (now start) ≡ 34076) × (enoughBytes ≤ length (now text)) ⌝ }
     ensures { λ r. ⌜ ((input : List ℕ) → take (length (now (start .entry))) input ≡ take read (now (start .entry)) → take r (now (text .exit)) ≡ listingOf (judgeOf input)) ⌝ }

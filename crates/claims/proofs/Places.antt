@@ -1,4 +1,4 @@
--- Within a list what stands for the places past it does not matter: at a place of the list, and of the list mapped. Assumes nothing.
+-- Reading a list at one of its own places: the value given for other places does not matter, for the list and for the list mapped. Assumes nothing.
 use Prim.Native.Nat.{ℕ, _<_}
 use mathlib.Core.Path.{_≡_, sym, ap, _∙_}
 use mathlib.Core.List.{List, map}

@@ -1,4 +1,4 @@
--- A run does no more Swaps than its file has requests, and a file has at most 256. Assumes fields in range.
+-- A run does no more Swaps than its file has requests, which are at most 256. Assumes fields in range, or the claim of the run.
 use Prim.Native.Nat.{ℕ, zero, suc, _+_, _-_, _*_, _≤_, _<_, min, max}
 use native.Mathlib.Omega.{arith}
 use mathlib.Core.Path.{_≡_, refl, ap₂}

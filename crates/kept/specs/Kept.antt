@@ -22,7 +22,7 @@ keptOf run c =
     let w = shownOf c (servings run) in
     record { mark = retMark (w .ret); server = w .server; value = retValue (w .ret); remote = costOf c run; returned = returned c run; turn = w .turn }
 
--- of a call of which no entry is
+-- of a call before its first entry
 abbrev pub unkept : Kept
 unkept = record { mark = 255; server = 255; value = 0; remote = 0; returned = false; turn = 65535 }
 

@@ -26,7 +26,7 @@ pub const NO_CALL: u16 = 16 * 255 + 255;
 // No turn: of a thread that has begun none, and of a call that is not served.
 pub const NO_TURN: u16 = 65535;
 
-// Of a call of which no entry is.
+// What is kept of a call before its first entry.
 pub fn unkept() -> Kept
     ensures { λ r. ⌜ r ≡ unkept ⌝ }
 {
@@ -67,7 +67,7 @@ pub fn after_serving(kept: Kept, serves: bool, answer: Answer, server: ThreadId,
     kept
 }
 
-// The place of the call that line 16 serves, which the node was given to; else that of the entry's call.
+// The place of the call that is served at line 16, the one that the node was given to last; at other lines that of the entry's own call, which stays.
 pub fn served_place(serves: bool, given: u16, place: usize) -> usize
     ensures { λ r. ⌜ r ≡ cond serves given place ⌝ }
 {
@@ -77,7 +77,7 @@ pub fn served_place(serves: bool, given: u16, place: usize) -> usize
     place
 }
 
-// Notes a number at a place, or not.
+// Notes a number at a place, or not; past the end nothing is noted, as `set` has it.
 fn note(numbers: &mut [u16], at: usize, notes: bool, number: usize)
     ensures { λ r. ⌜ now (numbers .exit) ≡ cond notes (set (now (numbers .entry)) at (number % 65536)) (now (numbers .entry)) ⌝ }
 {

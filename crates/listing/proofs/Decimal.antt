@@ -1,4 +1,4 @@
--- Laws of numbers in decimal: one digit, one digit more, how many there are, the first is no zero, and the number is read back. Assumes nothing.
+-- Laws of numbers in decimal: one digit, one digit more, how many there are, the first is no zero, and the number is read back. Assumes a number of at most ten digits.
 use Prim.Native.Nat.{ℕ, zero, suc, _+_, _-_, _*_, _/_, _%_, _^_, _≤_, _<_}
 use native.Mathlib.Nat.{pow-suc}
 use native.Mathlib.Decide.{decLe}

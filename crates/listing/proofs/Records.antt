@@ -1,4 +1,4 @@
--- The records of a run as bytes: 16 each, read back from a buffer; and a record's line shows its call. Assumes nothing.
+-- The records of a run as bytes: 16 each, read back from a buffer; and a record's line shows its call. Assumes records of 16 bytes, and of the line of a call that value, turn and cost fit their bytes.
 use Prim.Native.Nat.{ℕ, _^_, _<_}
 use mathlib.Core.Path.{_≡_, refl, _∙_}
 use mathlib.Core.List.{List, [], _∷_, _++_, reverse, append-assoc}

@@ -1,4 +1,4 @@
--- The run's answer and the records in its buffer give the listing of an accepted file. Assumes fields in range.
+-- What `run` and `judge` promise gives the listing of the file, accepted or refused. Assumes their promises.
 use Prim.Native.Nat.{ℕ, _*_, _≤_}
 use native.Mathlib.Omega.{arith}
 use mathlib.Core.Path.{_≡_, sym, ap, subst, _∙_}

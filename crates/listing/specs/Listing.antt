@@ -18,11 +18,13 @@ use Rattle.claims.specs.Entries.{entriesOf}
 use Rattle.claims.specs.Terms.{recordsOf, countsOf}
 use Rattle.listing.specs.Text.{text, decimal, line}
 
+-- the object's word
 abbrev pub kindWord : Kind → List ℕ
 kindWord Queue = text "queue"
 kindWord Stack = text "stack"
 kindWord Counter = text "counter"
 
+-- the five counts of the head line
 abbrev pub countWords : Counts → List (List ℕ)
 countWords counts =
     (text "calls=" ++ decimal (counts .records))
@@ -46,6 +48,7 @@ headLine head counts =
 abbrev pub retOf : ℕ → ℕ → RetVal
 retOf mark value = getD (Answered Done ∷ Answered (Value value) ∷ Answered Empty ∷ Answered Full ∷ []) mark NoAnswer
 
+-- mark word: done, value, empty, full, or none before serving
 abbrev pub answerWord : Answer → List ℕ
 answerWord Done = text "done"
 answerWord (Value v) = text "value"
@@ -71,7 +74,7 @@ valueWord (Answered answer) = answerValueWord answer
 abbrev pub servedWord : ℕ → ℕ → List ℕ
 servedWord none number = cond (eqb number none) (text "-") (decimal number)
 
--- 1 once returned
+-- byte 12: `returned` where it is 1, else `open`
 abbrev pub endWord : ℕ → List ℕ
 endWord over = cond (eqb over 1) (text "returned") (text "open")
 
@@ -103,6 +106,7 @@ unfoldable pub recordLines : ℕ → List (List ℕ) → List ℕ
 recordLines order [] = []
 recordLines order (bytes ∷ records) = recordLine order bytes ++ recordLines (suc order) records
 
+-- `refused N`
 unfoldable pub refusalLine : ℕ → List ℕ
 refusalLine number = line (text "refused") (decimal number ∷ [])
 

@@ -29,6 +29,9 @@ enoughBytes = headMost + 256 * lineMost
 
 -- the listing of a file
 pub record Lists (bytes old new : List ℕ) (r : Listed) : Type 0 where
+  -- the listing stands in the buffer, or 13
   pub gives : Gives (listingOf (judgeOf bytes)) old new r
+  -- so many bytes are never too few
   pub enough : enoughBytes ≤ length old → r .refusal ≡ 0
+  -- the length is within the buffer
   pub inside : r .length ≤ length old

@@ -15,7 +15,7 @@ text (c then s) = code c ∷ text s
 abbrev pub digit : ℕ → List ℕ
 digit d = (48 + d) ∷ []
 
--- the digits of a number, the highest first and without leading zeros: one, and before it so many at most
+-- the digits of a number, the highest first and without leading zeros: a last digit, and at most so many before it
 unfoldable pub digits : ℕ → ℕ → List ℕ
 digits zero n = digit n
 digits (suc before) n = cond (ltb n 10) (digit n) (digits before (n / 10) ++ digit (n % 10))
@@ -24,10 +24,11 @@ digits (suc before) n = cond (ltb n 10) (digit n) (digits before (n / 10) ++ dig
 abbrev pub decimal : ℕ → List ℕ
 decimal n = digits 9 n
 
--- a line: words separated by one space and ended by a newline
+-- the rest of a line: each word behind one space, then a newline
 abbrev pub lineEnd : List (List ℕ) → List ℕ
 lineEnd [] = text "\n"
 lineEnd (word ∷ words) = text " " ++ (word ++ lineEnd words)
 
+-- a line: its first word and the rest
 abbrev pub line : List ℕ → List (List ℕ) → List ℕ
 line word words = word ++ lineEnd words

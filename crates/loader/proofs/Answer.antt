@@ -1,4 +1,4 @@
--- What `load` answers, from what the judge answered. Assumes nothing.
+-- What the judge's answer says of the judgement, and what `load` answers from it. Assumes nothing.
 use Prim.Native.Nat.{ℕ}
 use native.Mathlib.Omega.{arith}
 use mathlib.Core.Path.{_≡_, refl, sym, ap}

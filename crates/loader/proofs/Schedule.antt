@@ -1,4 +1,4 @@
--- The schedule stands at the end of its file. Assumes nothing.
+-- The schedule stands at the end of its file. Assumes that the bytes are bytes.
 use Prim.Native.Nat.{ℕ, _-_, _≤_}
 use native.Mathlib.Omega.{arith}
 use mathlib.Core.Path.{_≡_}

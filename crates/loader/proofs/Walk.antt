@@ -1,4 +1,4 @@
--- The walk through the rows of an accepted file: what is left of the bytes, and the counts and requests so far. Assumes nothing.
+-- The walk through the rows of an accepted file: what is left of the bytes, and the counts and requests so far. Assumes that the bytes are bytes.
 use Prim.Native.Nat.{ℕ, _+_, _*_, _-_, _≤_, _<_}
 use native.Mathlib.Nat.{add-zero}
 use native.Mathlib.Numerals.{add-one}

@@ -7,7 +7,7 @@ use Rattle.object.specs.declared.Request.{Request}
 use Rattle.object.specs.Paper.{requestOf}
 use Rattle.bench_file.specs.Reading.{littleEndian}
 use Rattle.bench_file.specs.Layout.{Judgement, accepted, refusedBy}
-use Rattle.bench_file.specs.Cursor.{sumOver}
+use Rattle.bench_file.specs.Cursor.{requestsOf}
 use Rattle.state.specs.declared.Slot.{Slot}
 use Rattle.state.specs.declared.State.{State}
 use Rattle.state.specs.Fresh.{freshState}
@@ -21,10 +21,10 @@ noMachine = freshState Queue 0 0 0 (replicate 16 0) (replicate 256 zeroSlot)
 
 -- how many requests and entries an accepted file has, and its fresh machine; a refusal has its number, and all counts 0
 abbrev pub loadedAs : Judgement → Loaded
-loadedAs (accepted f) = record { refusal = 0; requests = sumOver length (f .rows); entries = length (f .schedule); state = startOf f }
+loadedAs (accepted f) = record { refusal = 0; requests = requestsOf f; entries = length (f .schedule); state = startOf f }
 loadedAs (refusedBy number) = record { refusal = number; requests = 0; entries = 0; state = noMachine }
 
--- the request whose code and value bytes begin with, and so many one after the other
+-- the request whose code and value the bytes begin with, and so many requests, one after the other
 abbrev pub requestIn : List ℕ → Request
 requestIn bytes = requestOf (getD bytes 0 0) (littleEndian (take 4 (drop 1 bytes)))
 

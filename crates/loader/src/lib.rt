@@ -124,7 +124,7 @@ fn request_at(file: &[u8], at: usize) -> Request
     object::request_of(file[at], value)
 }
 
-// The places of requests, with so many requests of the file, from byte `at` on, laid from place `first` on.
+// The requests with `count` more, read from byte `at` of the file on and stored from place `first` on.
 fn laid(requests: [Slot; 256], first: usize, file: &[u8], at: usize, count: usize) -> [Slot; 256]
     requires { ⌜ (first + count ≤ 256) × (at + 5 * count ≤ length (now file)) ⌝ }
     ensures { λ r. ⌜ r ≡ sets requests first (slotsIn count (drop at (now (file .entry)))) ⌝ }

@@ -278,7 +278,7 @@ pub fn row_of(line: u8) -> Row
     LINES[place]
 }
 
-// The rows of all lines, a blank's first: row_of at hand for a run.
+// The rows of all lines in one array, the blank's at 0, made once for a run.
 pub fn all_rows() -> [Row; 22]
     ensures { λ r. ⌜ r ≡ map rowOf (Blank ∷ printed) ⌝ }
 {

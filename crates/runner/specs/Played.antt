@@ -8,7 +8,7 @@ use lib.Dec.{ltb}
 use Rattle.object.specs.declared.Kind.the-variants.{Queue}
 use Rattle.bench_file.specs.Layout.{Fields, Judgement, accepted, refusedBy, judgeOf}
 use Rattle.bench_file.specs.Bytes.{InRange}
-use Rattle.bench_file.specs.Cursor.{sumOver}
+use Rattle.bench_file.specs.Cursor.{requestsOf}
 use Rattle.state.specs.declared.State.{State}
 use Rattle.claims.specs.Entries.{Entry, filled, startOf, entriesOf}
 use Rattle.claims.specs.Terms.{swapOrder, countsOf}
@@ -31,7 +31,7 @@ pub record Startable (f : Fields) (bytes : List ℕ) (from : ℕ) (s : State) : 
   pub inside : from ≤ length bytes
   pub start : s ≡ startOf f
 
--- a list of so many values, by their places from one on
+-- the values of so many places, from a first place on
 unfoldable pub tabled : {A : Type 0} → (ℕ → A) → ℕ → ℕ → List A
 tabled value from zero = []
 tabled value from (suc k) = value from ∷ tabled value (from + 1) k
@@ -54,5 +54,5 @@ unplayed number = record { refusal = number; counts = counted 0 0 0 0 0; kept = 
 
 -- a file's run with so many bytes lent for its records: 16 for each request in the file, performed or not, else 13
 abbrev pub playedIn : ℕ → Judgement → Played
-playedIn lent (accepted f) = cond (ltb lent (16 * sumOver length (f .rows))) (unplayed 13) (playedOf f)
+playedIn lent (accepted f) = cond (ltb lent (16 * requestsOf f)) (unplayed 13) (playedOf f)
 playedIn lent (refusedBy number) = unplayed number

@@ -1,4 +1,4 @@
--- What `enter` puts together, one equation for each of its calls, is the outcome of the entry; and the order in which `step` judges. Assumes what the modules' parameters say.
+-- What the calls for an entry answer, in `enter` and in a run, one equation for each, makes the state after it, and in `enter` the outcome; and the order in which `step` judges. Assumes what the modules' parameters say.
 use Prim.Native.Nat.{ℕ, _+_, _-_, _*_, _<_, _≤_}
 use native.Mathlib.Nat.{mod-eq-of-lt}
 use native.Mathlib.Omega.{arith}

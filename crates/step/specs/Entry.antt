@@ -46,6 +46,7 @@ zeroThread = record {
 abbrev pub zeroNode : Node
 zeroNode = record { req = NoRequest; ret = NoAnswer; wait = false; completed = false; next = zeroNodeId }
 
+-- also what stands at the start on the places past a thread's count
 abbrev pub zeroSlot : Slot
 zeroSlot = record { request = Put 0 }
 
@@ -80,7 +81,7 @@ plus c d = record {
   remote = c .remote + d .remote;
 }
 
--- counts on 32 bits each, as they are where they fit
+-- each count modulo 4,294,967,296, which changes none that has 32 bits
 abbrev pub wrapped : Counts → Counts
 wrapped c = record {
   records = c .records % 2 ^ 32;

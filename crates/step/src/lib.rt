@@ -58,7 +58,7 @@ fn applied_at(line: u8, kind: Kind, capacity: u8, object: Object, req: Announced
     }
 }
 
-// The place of the call that a thread has begun last, and of its request in the rows.
+// The place of the call that a thread has begun last, and of its request in the rows; of a thread that has begun none, the first of its row.
 pub fn call_place(thread: ThreadId, begun: u8) -> usize
     ensures { λ r. ⌜ r ≡ 16 * thread .0 + (begun - 1) ⌝ }
 {
@@ -106,7 +106,7 @@ fn counts_fit(counts: Counts, more: Counts) -> bool
     records & turns & blanks & spins & remote
 }
 
-// The counts after an entry. They wrap where `counts_fit` says no.
+// The counts after an entry. A count past 32 bits wraps: `enter` refuses such an entry before, and no run meets one.
 pub fn plus(counts: Counts, more: Counts) -> Counts
     ensures { λ r. ⌜ r ≡ wrapped (plus counts more) ⌝ }
 {

@@ -1,4 +1,4 @@
--- `machine::all_rows` meets its contract: each turn puts the row of one more line. Assumes nothing.
+-- `machine::all_rows` meets its contract: each pass puts the row of one more line. Assumes nothing.
 use Prim.Native.Nat.{ℕ, _+_, _-_, _≤_, _<_}
 use native.Mathlib.Nat.{zero-add}
 use native.Mathlib.Numerals.{add-one}
@@ -16,8 +16,8 @@ use Rattle.machine.proofs.all_rows.Tie as tie
 abbrev all : List Row
 all = map rowOf (Blank ∷ printed)
 
-turn : (line : ℕ) → line < 22 → set (paste (replicate 22 silent) 0 all line) line (rowOf (lineOf line)) ≡ paste (replicate 22 silent) 0 all (line + 1)
-turn line h =
+pass : (line : ℕ) → line < 22 → set (paste (replicate 22 silent) 0 all line) line (rowOf (lineOf line)) ≡ paste (replicate 22 silent) 0 all (line + 1)
+pass line h =
     subst (λ (k : ℕ). set (paste (replicate 22 silent) 0 all line) k (rowOf (lineOf line)) ≡ paste (replicate 22 silent) 0 all (line + 1)) (zero-add line)
     (rw (← List·getD-map rowOf (Blank ∷ printed) line Blank, add-one) (paste-suc (replicate 22 silent) 0 all line silent (omega arith) h))
 
@@ -55,7 +55,7 @@ loop-less c = search needs
 loop-again : tie.Need-loop-again Inv-loop μ-loop
 loop-again c =
     let at = c .before .before .loop in
-    (omega (arith, c .before .loop-test .taken), rw (at .inv .1, c .row-of .ensures) (turn (at .line) (c .before .loop-test .taken)))
+    (omega (arith, c .before .loop-test .taken), rw (at .inv .1, c .row-of .ensures) (pass (at .line) (c .before .loop-test .taken)))
 
 returns : tie.Need-returns Inv-loop μ-loop
 returns c =

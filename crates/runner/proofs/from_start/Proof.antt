@@ -1,4 +1,4 @@
--- `runner::from_start` meets its contract. Assumes nothing.
+-- `runner::from_start` meets its contract: its loop keeps `Looping` of Running.antt. Assumes nothing.
 use Prim.Native.Nat.{ℕ, _-_, _<_}
 use native.Mathlib.Omega.{arith}
 use mathlib.Core.Path.{_≡_, refl, ap, ap₂, _∙_}
