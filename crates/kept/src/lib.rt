@@ -1,5 +1,5 @@
-// What a run keeps of each call while it goes, and of whose call each node is.
-ghost use Prim.Native.Nat.{_+_, _-_, _*_, _%_};
+// What a run keeps of each call while it goes, and what it notes: turns, the call that a node is given to, Swap order.
+ghost use Prim.Native.Nat.{_%_};
 ghost use mathlib.Core.Path.{_≡_};
 ghost use mathlib.Core.Bool.{cond};
 ghost use lib.ListN.{set};
