@@ -1,0 +1,93 @@
+/* The CC-Synch step bench for programs in C: link with libccs.a, which `rt staticlib ccs` builds.
+ *
+ * Every function takes any bytes, any numbers and any lent buffer, and answers a refusal: CCS_ACCEPTED, 0, or one of the numbers below. Each
+ * comment says which numbers a function gives, and what each buffer holds afterwards, refused or not. The file's layout, the record of a call and
+ * the listing are those of document 01.
+ *
+ * Pointers: each points to as many bytes or numbers as the length beside it or the parameter says, and is not NULL, even where the length is 0. What
+ * is lent for writing overlaps nothing else that is passed. Nothing is kept of a pointer after the call, and no function writes to memory that is
+ * not lent to it.
+ */
+#ifndef CCS_H
+#define CCS_H
+
+#include <stddef.h>
+#include <stdint.h>
+
+#ifdef __cplusplus
+extern "C" {
+#endif
+
+/* The refusals. Fields are judged front to back; at each, CCS_CUT_OFF comes before the field's own rule, then CCS_TRAILING, then CCS_BUFFER. */
+enum {
+    CCS_ACCEPTED = 0,
+    CCS_CUT_OFF = 1,          /* a field is cut off by the end; of given fields, a row is too short */
+    CCS_MARK = 2,             /* the mark differs */
+    CCS_VERSION = 3,          /* the version is not 1 */
+    CCS_OBJECT = 4,           /* the object is above 2 */
+    CCS_THREADS = 5,          /* n is outside 1 to 16 */
+    CCS_BOUND = 6,            /* h is 0 */
+    CCS_CAPACITY = 7,         /* the capacity is not allowed for the object */
+    CCS_COUNT = 8,            /* a count of requests is above 16 */
+    CCS_REQUEST = 9,          /* a code is unknown to the object, or a take has a value other than 0 */
+    CCS_SCHEDULE_LENGTH = 10, /* the schedule is longer than 32,768 */
+    CCS_ENTRY = 11,           /* an entry is not below n */
+    CCS_TRAILING = 12,        /* bytes follow the end; of given fields, a row is too long */
+    CCS_BUFFER = 13           /* the lent buffer is too short */
+};
+
+/* The bytes of one record, how many hold the records of every file, and how many the listing of every file. */
+enum {
+    CCS_RECORD_LENGTH = 16,
+    CCS_ENOUGH_FOR_RECORDS = 4096,
+    CCS_ENOUGH_FOR_LISTING = 23677
+};
+
+/* The places of the numbers that ccs_judge tells. */
+enum {
+    CCS_JUDGED_OBJECT,   /* 0 queue, 1 stack, 2 counter */
+    CCS_JUDGED_N,        /* threads */
+    CCS_JUDGED_H,        /* how many requests a turn serves at most */
+    CCS_JUDGED_CAPACITY, /* of a queue or a stack; 0 for a counter */
+    CCS_JUDGED_REQUESTS, /* requests of all threads */
+    CCS_JUDGED_ENTRIES,  /* entries of the schedule */
+    CCS_JUDGED_NUMBERS   /* how many numbers these are */
+};
+
+/* The places of the counts that ccs_run tells. */
+enum {
+    CCS_COUNT_RECORDS, /* one for each Swap done */
+    CCS_COUNT_TURNS,   /* turns begun */
+    CCS_COUNT_BLANKS,  /* entries of an idle thread without a request left */
+    CCS_COUNT_SPINS,   /* reads of wait that found it true */
+    CCS_COUNT_REMOTE,  /* all remote references, those of calls not yet at Swap included */
+    CCS_COUNTS         /* how many counts these are */
+};
+
+/* Judges file as a bench file: 0, or 1 to 12. The numbers are those of the file, or all 0 if it is refused. */
+uint8_t ccs_judge(const uint8_t *file, size_t file_length, size_t numbers[CCS_JUDGED_NUMBERS]);
+
+/* Runs file as a bench file: 0, or 1 to 12 for the file, or 13 where out has fewer than 16 bytes for each request in the file, performed or not.
+ * Run: out has one record of 16 bytes for each Swap done, in Swap order, from its first byte on, and every later byte is as it was; the counts are
+ * those of the run. Refused: out is as it was, and all counts are 0. */
+uint8_t ccs_run(const uint8_t *file, size_t file_length, uint8_t *out, size_t out_length, uint32_t counts[CCS_COUNTS]);
+
+/* Writes the bench file of given fields: 0, or 4 to 7 for the numbers, 1 or 12 for a row of fewer or more than n counts, 8 for a count, 1 or 12 for
+ * fewer or more bytes of requests than the counts ask, 9 for a request, 10 or 11 for the schedule, or 13 where out is shorter than the file, judged in
+ * this order. requests has five bytes for each request, thread by thread: code, then value, low byte first.
+ * Written: out has the file from its first byte on, every later byte is as it was, and *length is the file's. Refused: out is as it was, and *length
+ * is 0. */
+uint8_t ccs_write(uint8_t object, uint8_t n, uint8_t h, uint8_t capacity, const uint8_t *counts, size_t counts_length, const uint8_t *requests,
+                  size_t requests_length, const uint8_t *schedule, size_t schedule_length, uint8_t *out, size_t out_length, size_t *length);
+
+/* Lists file as a bench file, as text: 0, or 13 where the listing is longer than out, which it never is with CCS_ENOUGH_FOR_LISTING bytes. A file
+ * that is refused has the listing `refused N`.
+ * Listed: out has the text from its first byte on, without a 0 at its end, every later byte is as it was, and *length is the text's. Refused: out is as
+ * it was, and *length is 0. */
+uint8_t ccs_list(const uint8_t *file, size_t file_length, uint8_t *out, size_t out_length, size_t *length);
+
+#ifdef __cplusplus
+}
+#endif
+
+#endif
