@@ -1,0 +1,53 @@
+/* Writes a bench file of two threads, runs it under a schedule, and prints what each call cost. */
+#include "ccs.h"
+
+#include <stdio.h>
+
+/* A record's number of four bytes, low byte first. */
+static uint32_t number(const uint8_t *at)
+{
+    return at[0] | (uint32_t)at[1] << 8 | (uint32_t)at[2] << 16 | (uint32_t)at[3] << 24;
+}
+
+int main(void)
+{
+    /* Queue of capacity 4, h = 8; thread 0 puts 7, thread 1 takes: document 01's run with costs 14 and 10. */
+    const uint8_t counts[] = {1, 1};
+    const uint8_t requests[] = {0, 7, 0, 0, 0, 1, 0, 0, 0, 0};
+    uint8_t schedule[8 + 9 + 20 + 3] = {0};
+    for (size_t i = 8; i < 17; i++)
+        schedule[i] = 1;
+    for (size_t i = 37; i < 40; i++)
+        schedule[i] = 1;
+
+    uint8_t file[128];
+    size_t file_length;
+    uint8_t refusal = ccs_write(0, 2, 8, 4, counts, sizeof counts, requests, sizeof requests, schedule, sizeof schedule, file, sizeof file, &file_length);
+    if (refusal != CCS_ACCEPTED) {
+        printf("not written: %d\n", refusal);
+        return 1;
+    }
+
+    size_t judged[CCS_JUDGED_NUMBERS];
+    refusal = ccs_judge(file, file_length, judged);
+    printf("judged %d: n=%zu h=%zu requests=%zu entries=%zu\n", refusal, judged[CCS_JUDGED_N], judged[CCS_JUDGED_H], judged[CCS_JUDGED_REQUESTS],
+           judged[CCS_JUDGED_ENTRIES]);
+
+    uint8_t records[2 * CCS_RECORD_LENGTH];
+    uint32_t told[CCS_COUNTS];
+    refusal = ccs_run(file, file_length, records, sizeof records, told);
+    if (refusal != CCS_ACCEPTED) {
+        printf("not run: %d\n", refusal);
+        return 1;
+    }
+    for (uint32_t i = 0; i < told[CCS_COUNT_RECORDS]; i++) {
+        const uint8_t *call = records + i * CCS_RECORD_LENGTH;
+        printf("thread %d, served by thread %d: %u remote references\n", call[0], call[3], number(call + 8));
+    }
+
+    uint8_t text[CCS_ENOUGH_FOR_LISTING];
+    size_t length;
+    refusal = ccs_list(file, file_length, text, sizeof text, &length);
+    fwrite(text, 1, length, stdout);
+    return refusal;
+}

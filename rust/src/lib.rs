@@ -1,0 +1,194 @@
+//! The CC-Synch step bench for Rust programs: safe functions over the proved library.
+//!
+//! Each function takes any bytes and any lent buffer, and answers a result or a [`Refusal`]. A refusal leaves the buffer as it was;
+//! otherwise what is written stands from the buffer's first byte on, and every later byte is as it was.
+//!
+//! What the library promises of its answers is proved, for every file and every schedule; this package, the linker and the compiler
+//! are not part of that proof. The file's layout, the record of a call and the listing are those of document 01.
+mod record;
+mod refusal;
+
+pub use record::{Answer, Record};
+pub use refusal::Refusal;
+
+/// The functions of `include/ccs.h`.
+mod border {
+    extern "C" {
+        pub fn ccs_judge(file: *const u8, file_length: usize, numbers: *mut [usize; 6]) -> u8;
+        pub fn ccs_run(file: *const u8, file_length: usize, out: *mut u8, out_length: usize, numbers: *mut [u32; 5]) -> u8;
+        pub fn ccs_write(
+            object: u8,
+            n: u8,
+            h: u8,
+            capacity: u8,
+            counts: *const u8,
+            counts_length: usize,
+            requests: *const u8,
+            requests_length: usize,
+            schedule: *const u8,
+            schedule_length: usize,
+            out: *mut u8,
+            out_length: usize,
+            length: *mut usize,
+        ) -> u8;
+        pub fn ccs_list(file: *const u8, file_length: usize, out: *mut u8, out_length: usize, length: *mut usize) -> u8;
+    }
+}
+
+/// The bytes of one record in the buffer of [`run`].
+pub const RECORD_LENGTH: usize = 16;
+
+/// So many bytes hold the records of every file.
+pub const ENOUGH_FOR_RECORDS: usize = 4096;
+
+/// So many bytes hold the listing of every file.
+pub const ENOUGH_FOR_LISTING: usize = 23_677;
+
+/// What a file that is accepted holds, by the numbers of its layout.
+#[derive(Clone, Copy, Debug, PartialEq, Eq)]
+pub struct Judged {
+    /// 0 queue, 1 stack, 2 counter.
+    pub object: usize,
+    /// How many threads.
+    pub n: usize,
+    /// How many requests a turn serves at most.
+    pub h: usize,
+    /// The capacity of a queue or a stack, 0 for a counter.
+    pub capacity: usize,
+    /// The requests of all threads.
+    pub requests: usize,
+    /// The entries of the schedule.
+    pub entries: usize,
+}
+
+/// The counts of a run.
+#[derive(Clone, Copy, Debug, PartialEq, Eq)]
+pub struct Counts {
+    /// Records, one for each Swap done.
+    pub records: u32,
+    /// Turns begun.
+    pub turns: u32,
+    /// Entries of an idle thread without a request left.
+    pub blanks: u32,
+    /// Reads of wait that found it true.
+    pub spins: u32,
+    /// All remote references, those of calls not yet at Swap included.
+    pub remote: u32,
+}
+
+/// The fields of a file, as [`write`] is given them.
+#[derive(Clone, Copy, Debug, PartialEq, Eq)]
+pub struct Fields<'a> {
+    /// 0 queue, 1 stack, 2 counter.
+    pub object: u8,
+    /// How many threads, 1 to 16.
+    pub n: u8,
+    /// How many requests a turn serves at most, 1 to 255.
+    pub h: u8,
+    /// 1 to 64, 0 for the counter.
+    pub capacity: u8,
+    /// How many requests each thread has, a byte each.
+    pub counts: &'a [u8],
+    /// The requests, thread by thread, five bytes each: code, then value.
+    pub requests: &'a [u8],
+    /// The schedule, a thread's number an entry.
+    pub schedule: &'a [u8],
+}
+
+/// The answer unless the number is a refusal's.
+fn unless_refused<T>(number: u8, answer: T) -> Result<T, Refusal> {
+    match Refusal::of(number) {
+        None => Ok(answer),
+        Some(refusal) => Err(refusal),
+    }
+}
+
+/// Judges any bytes as a bench file.
+///
+/// ```
+/// // a counter, one thread without requests, an empty schedule
+/// let file = [0x43, 0x43, 0x53, 1, 0, 2, 1, 1, 0, 0, 0, 0];
+/// let judged = ccs::judge(&file).unwrap();
+/// assert_eq!((judged.object, judged.n, judged.entries), (2, 1, 0));
+/// assert_eq!(ccs::judge(&file[..5]), Err(ccs::Refusal::CutOff));
+/// ```
+pub fn judge(file: &[u8]) -> Result<Judged, Refusal> {
+    let mut numbers = [0; 6];
+    // SAFETY: the pointers and lengths are those of a slice and an array that live through the call and do not overlap.
+    let number = unsafe { border::ccs_judge(file.as_ptr(), file.len(), &mut numbers) };
+    let [object, n, h, capacity, requests, entries] = numbers;
+    unless_refused(number, Judged { object, n, h, capacity, requests, entries })
+}
+
+/// Runs any bytes as a bench file. The buffer needs [`RECORD_LENGTH`] bytes for each request in the file; it then has one record for each
+/// Swap done, in Swap order.
+///
+/// ```
+/// // a counter, one thread that adds 5, and 21 entries
+/// let mut file = vec![0x43, 0x43, 0x53, 1, 0, 2, 1, 1, 0, 1, 2, 5, 0, 0, 0, 21, 0];
+/// file.resize(file.len() + 21, 0);
+/// let mut out = [0xEE; 32];
+/// let counts = ccs::run(&file, &mut out).unwrap();
+/// assert_eq!((counts.records, counts.turns, counts.remote), (1, 1, 9));
+/// let record = ccs::Record::read(&out).unwrap();
+/// assert_eq!(record.answer, Some(ccs::Answer::Value(0)));
+/// assert!(record.returned);
+/// assert_eq!(out[16..], [0xEE; 16]);
+/// assert_eq!(ccs::run(&file, &mut out[..15]), Err(ccs::Refusal::Buffer));
+/// ```
+pub fn run(file: &[u8], out: &mut [u8]) -> Result<Counts, Refusal> {
+    let mut numbers = [0; 5];
+    // SAFETY: as in `judge`; `out` is lent for writing.
+    let number = unsafe { border::ccs_run(file.as_ptr(), file.len(), out.as_mut_ptr(), out.len(), &mut numbers) };
+    let [records, turns, blanks, spins, remote] = numbers;
+    unless_refused(number, Counts { records, turns, blanks, spins, remote })
+}
+
+/// Writes the bench file of given fields, and answers its length.
+///
+/// ```
+/// let fields = ccs::Fields { object: 2, n: 1, h: 1, capacity: 0, counts: &[1], requests: &[2, 5, 0, 0, 0], schedule: &[0; 21] };
+/// let mut file = [0; 64];
+/// let length = ccs::write(&fields, &mut file).unwrap();
+/// assert_eq!(length, 38);
+/// assert_eq!(ccs::judge(&file[..length]).unwrap().requests, 1);
+/// assert_eq!(ccs::write(&fields, &mut file[..37]), Err(ccs::Refusal::Buffer));
+/// ```
+pub fn write(fields: &Fields, out: &mut [u8]) -> Result<usize, Refusal> {
+    let mut length = 0;
+    // SAFETY: as in `run`.
+    let number = unsafe {
+        border::ccs_write(
+            fields.object,
+            fields.n,
+            fields.h,
+            fields.capacity,
+            fields.counts.as_ptr(),
+            fields.counts.len(),
+            fields.requests.as_ptr(),
+            fields.requests.len(),
+            fields.schedule.as_ptr(),
+            fields.schedule.len(),
+            out.as_mut_ptr(),
+            out.len(),
+            &mut length,
+        )
+    };
+    unless_refused(number, length)
+}
+
+/// Lists any bytes as a bench file, and answers the listing's length; a file that is refused has the listing `refused N`. The one refusal is
+/// [`Refusal::Buffer`]; [`ENOUGH_FOR_LISTING`] bytes are never too few.
+///
+/// ```
+/// let mut out = [0; ccs::ENOUGH_FOR_LISTING];
+/// let length = ccs::list(b"CCT", &mut out).unwrap();
+/// assert_eq!(&out[..length], b"refused 2\n");
+/// assert_eq!(ccs::list(b"CCT", &mut out[..9]), Err(ccs::Refusal::Buffer));
+/// ```
+pub fn list(file: &[u8], out: &mut [u8]) -> Result<usize, Refusal> {
+    let mut length = 0;
+    // SAFETY: as in `run`.
+    let number = unsafe { border::ccs_list(file.as_ptr(), file.len(), out.as_mut_ptr(), out.len(), &mut length) };
+    unless_refused(number, length)
+}

@@ -1,0 +1,95 @@
+//! The refusals of document 01 that the library's functions give.
+use std::error::Error;
+use std::fmt;
+
+/// Why a file, its fields or a lent buffer is refused: document 01's table.
+///
+/// ```
+/// let refusal = ccs::judge(&[0x43, 0x43, 0x54]).unwrap_err();
+/// assert_eq!(refusal, ccs::Refusal::Mark);
+/// assert_eq!(refusal.number(), 2);
+/// assert_eq!(refusal.to_string(), "refused 2: the mark differs");
+/// ```
+#[derive(Clone, Copy, Debug, PartialEq, Eq, Hash)]
+pub enum Refusal {
+    /// 1: a field is cut off by the end; of given fields, a row is too short.
+    CutOff,
+    /// 2: the mark differs.
+    Mark,
+    /// 3: the version is not 1.
+    Version,
+    /// 4: the object is above 2.
+    Object,
+    /// 5: n is outside 1 to 16.
+    Threads,
+    /// 6: h is 0.
+    Bound,
+    /// 7: the capacity is not allowed for the object.
+    Capacity,
+    /// 8: a count of requests is above 16.
+    Count,
+    /// 9: a code is unknown to the object, or a take has a value other than 0.
+    Request,
+    /// 10: the schedule is longer than 32,768.
+    ScheduleLength,
+    /// 11: an entry is not below n.
+    Entry,
+    /// 12: bytes follow the end; of given fields, a row is too long.
+    Trailing,
+    /// 13: the lent buffer is too short.
+    Buffer,
+    /// A number that is not in the table. The library gives none; nothing here relies on that.
+    Unlisted(u8),
+}
+
+/// The refusals 1 to 13 in order, with their words.
+const TABLE: [(Refusal, &str); 13] = [
+    (Refusal::CutOff, "a field is cut off by the end, or a row is too short"),
+    (Refusal::Mark, "the mark differs"),
+    (Refusal::Version, "the version is not 1"),
+    (Refusal::Object, "the object is above 2"),
+    (Refusal::Threads, "n is outside 1 to 16"),
+    (Refusal::Bound, "h is 0"),
+    (Refusal::Capacity, "the capacity is not allowed for the object"),
+    (Refusal::Count, "a count of requests is above 16"),
+    (Refusal::Request, "a code is unknown to the object, or a take has a value other than 0"),
+    (Refusal::ScheduleLength, "the schedule is longer than 32,768"),
+    (Refusal::Entry, "an entry is not below n"),
+    (Refusal::Trailing, "bytes follow the end, or a row is too long"),
+    (Refusal::Buffer, "the lent buffer is too short"),
+];
+
+impl Refusal {
+    /// The refusal of a number; 0 is none.
+    ///
+    /// ```
+    /// use ccs::Refusal;
+    /// assert_eq!(Refusal::of(0), None);
+    /// assert_eq!(Refusal::of(13), Some(Refusal::Buffer));
+    /// ```
+    pub fn of(number: u8) -> Option<Refusal> {
+        let place = usize::from(number).checked_sub(1)?;
+        Some(TABLE.get(place).map_or(Refusal::Unlisted(number), |row| row.0))
+    }
+
+    /// Document 01's number.
+    ///
+    /// ```
+    /// assert_eq!(ccs::Refusal::Entry.number(), 11);
+    /// ```
+    pub fn number(self) -> u8 {
+        match self {
+            Refusal::Unlisted(number) => number,
+            _ => (1..=13).find(|&number| Refusal::of(number) == Some(self)).unwrap_or(0),
+        }
+    }
+}
+
+impl fmt::Display for Refusal {
+    fn fmt(&self, f: &mut fmt::Formatter<'_>) -> fmt::Result {
+        let words = TABLE.iter().find(|row| row.0 == *self).map_or("a number that is not listed", |row| row.1);
+        write!(f, "refused {}: {}", self.number(), words)
+    }
+}
+
+impl Error for Refusal {}
