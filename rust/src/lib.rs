@@ -15,7 +15,13 @@ pub use refusal::Refusal;
 mod border {
     extern "C" {
         pub fn ccs_judge(file: *const u8, file_length: usize, numbers: *mut [usize; 6]) -> u8;
-        pub fn ccs_run(file: *const u8, file_length: usize, out: *mut u8, out_length: usize, numbers: *mut [u32; 5]) -> u8;
+        pub fn ccs_run(
+            file: *const u8,
+            file_length: usize,
+            out: *mut u8,
+            out_length: usize,
+            numbers: *mut [u32; 5],
+        ) -> u8;
         pub fn ccs_write(
             object: u8,
             n: u8,
@@ -31,7 +37,13 @@ mod border {
             out_length: usize,
             length: *mut usize,
         ) -> u8;
-        pub fn ccs_list(file: *const u8, file_length: usize, out: *mut u8, out_length: usize, length: *mut usize) -> u8;
+        pub fn ccs_list(
+            file: *const u8,
+            file_length: usize,
+            out: *mut u8,
+            out_length: usize,
+            length: *mut usize,
+        ) -> u8;
     }
 }
 
@@ -62,7 +74,7 @@ pub struct Judged {
 }
 
 /// The counts of a run.
-#[derive(Clone, Copy, Debug, PartialEq, Eq)]
+#[derive(Clone, Copy, Debug, Default, PartialEq, Eq)]
 pub struct Counts {
     /// Records, one for each Swap done.
     pub records: u32,
@@ -117,7 +129,17 @@ pub fn judge(file: &[u8]) -> Result<Judged, Refusal> {
     // SAFETY: the pointers and lengths are those of a slice and an array that live through the call and do not overlap.
     let number = unsafe { border::ccs_judge(file.as_ptr(), file.len(), &mut numbers) };
     let [object, n, h, capacity, requests, entries] = numbers;
-    unless_refused(number, Judged { object, n, h, capacity, requests, entries })
+    unless_refused(
+        number,
+        Judged {
+            object,
+            n,
+            h,
+            capacity,
+            requests,
+            entries,
+        },
+    )
 }
 
 /// Runs any bytes as a bench file. The buffer needs [`RECORD_LENGTH`] bytes for each request in the file; it then has one record for each
@@ -139,9 +161,26 @@ pub fn judge(file: &[u8]) -> Result<Judged, Refusal> {
 pub fn run(file: &[u8], out: &mut [u8]) -> Result<Counts, Refusal> {
     let mut numbers = [0; 5];
     // SAFETY: as in `judge`; `out` is lent for writing.
-    let number = unsafe { border::ccs_run(file.as_ptr(), file.len(), out.as_mut_ptr(), out.len(), &mut numbers) };
+    let number = unsafe {
+        border::ccs_run(
+            file.as_ptr(),
+            file.len(),
+            out.as_mut_ptr(),
+            out.len(),
+            &mut numbers,
+        )
+    };
     let [records, turns, blanks, spins, remote] = numbers;
-    unless_refused(number, Counts { records, turns, blanks, spins, remote })
+    unless_refused(
+        number,
+        Counts {
+            records,
+            turns,
+            blanks,
+            spins,
+            remote,
+        },
+    )
 }
 
 /// Writes the bench file of given fields, and answers its length.
@@ -189,6 +228,14 @@ pub fn write(fields: &Fields, out: &mut [u8]) -> Result<usize, Refusal> {
 pub fn list(file: &[u8], out: &mut [u8]) -> Result<usize, Refusal> {
     let mut length = 0;
     // SAFETY: as in `run`.
-    let number = unsafe { border::ccs_list(file.as_ptr(), file.len(), out.as_mut_ptr(), out.len(), &mut length) };
+    let number = unsafe {
+        border::ccs_list(
+            file.as_ptr(),
+            file.len(),
+            out.as_mut_ptr(),
+            out.len(),
+            &mut length,
+        )
+    };
     unless_refused(number, length)
 }

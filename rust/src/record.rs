@@ -47,7 +47,9 @@ impl Record {
     /// ```
     pub fn read(bytes: &[u8]) -> Option<Record> {
         let bytes: &[u8; RECORD_LENGTH] = bytes.get(..RECORD_LENGTH)?.try_into().ok()?;
-        let [thread, request, mark, server, v0, v1, v2, v3, r0, r1, r2, r3, returned, t0, t1, 0] = *bytes else {
+        let [thread, request, mark, server, v0, v1, v2, v3, r0, r1, r2, r3, returned, t0, t1, 0] =
+            *bytes
+        else {
             return None;
         };
         let value = u32::from_le_bytes([v0, v1, v2, v3]);

@@ -44,18 +44,33 @@ pub enum Refusal {
 
 /// The refusals 1 to 13 in order, with their words.
 const TABLE: [(Refusal, &str); 13] = [
-    (Refusal::CutOff, "a field is cut off by the end, or a row is too short"),
+    (
+        Refusal::CutOff,
+        "a field is cut off by the end, or a row is too short",
+    ),
     (Refusal::Mark, "the mark differs"),
     (Refusal::Version, "the version is not 1"),
     (Refusal::Object, "the object is above 2"),
     (Refusal::Threads, "n is outside 1 to 16"),
     (Refusal::Bound, "h is 0"),
-    (Refusal::Capacity, "the capacity is not allowed for the object"),
+    (
+        Refusal::Capacity,
+        "the capacity is not allowed for the object",
+    ),
     (Refusal::Count, "a count of requests is above 16"),
-    (Refusal::Request, "a code is unknown to the object, or a take has a value other than 0"),
-    (Refusal::ScheduleLength, "the schedule is longer than 32,768"),
+    (
+        Refusal::Request,
+        "a code is unknown to the object, or a take has a value other than 0",
+    ),
+    (
+        Refusal::ScheduleLength,
+        "the schedule is longer than 32,768",
+    ),
     (Refusal::Entry, "an entry is not below n"),
-    (Refusal::Trailing, "bytes follow the end, or a row is too long"),
+    (
+        Refusal::Trailing,
+        "bytes follow the end, or a row is too long",
+    ),
     (Refusal::Buffer, "the lent buffer is too short"),
 ];
 
@@ -69,7 +84,11 @@ impl Refusal {
     /// ```
     pub fn of(number: u8) -> Option<Refusal> {
         let place = usize::from(number).checked_sub(1)?;
-        Some(TABLE.get(place).map_or(Refusal::Unlisted(number), |row| row.0))
+        Some(
+            TABLE
+                .get(place)
+                .map_or(Refusal::Unlisted(number), |row| row.0),
+        )
     }
 
     /// Document 01's number.
@@ -80,14 +99,19 @@ impl Refusal {
     pub fn number(self) -> u8 {
         match self {
             Refusal::Unlisted(number) => number,
-            _ => (1..=13).find(|&number| Refusal::of(number) == Some(self)).unwrap_or(0),
+            _ => (1..=13)
+                .find(|&number| Refusal::of(number) == Some(self))
+                .unwrap_or(0),
         }
     }
 }
 
 impl fmt::Display for Refusal {
     fn fmt(&self, f: &mut fmt::Formatter<'_>) -> fmt::Result {
-        let words = TABLE.iter().find(|row| row.0 == *self).map_or("a number that is not listed", |row| row.1);
+        let words = TABLE
+            .iter()
+            .find(|row| row.0 == *self)
+            .map_or("a number that is not listed", |row| row.1);
         write!(f, "refused {}: {}", self.number(), words)
     }
 }

@@ -1,0 +1,414 @@
+//! Demand 3 of document 01, so far as it can be seen from outside: evaluated on the records and
+//! counts that a bench returns for every cut of one schedule, and on the file's fields alone.
+
+use ccs::{Counts, Fields};
+
+/// What the bench returned for the schedule cut to some length. The file's own schedule is not read.
+#[derive(Debug, PartialEq, Eq, Clone, Copy)]
+pub struct After<'a> {
+    pub counts: Counts,
+    pub records: &'a [[u8; 16]],
+}
+
+/// The claims on the empty cut.
+pub fn check_start(file: &Fields, after: &After) -> Result<(), String> {
+    claim(
+        after.counts == Counts::default(),
+        "all counts are 0 at the start",
+    )?;
+    check_cut(file, after)
+}
+
+/// The claims on one more entry, `before` having been checked: those on the new cut, and those on
+/// the step from one cut to the next.
+pub fn check_step(file: &Fields, before: &After, entry: u8, after: &After) -> Result<(), String> {
+    check_cut(file, after)?;
+    check_counts(before, after)?;
+    check_records(before, entry, after)?;
+    check_entry(file, before, entry, after)
+}
+
+/// The claims on one cut by itself.
+fn check_cut(file: &Fields, after: &After) -> Result<(), String> {
+    let After { counts, records } = *after;
+    claim(
+        records.len() == counts.records as usize,
+        "as many records as Swaps counted",
+    )?;
+    check_calls(file, records)?;
+    check_answers(file, records)?;
+    check_turns(file, &counts, records)?;
+    check_costs(file, &counts, records)
+}
+
+/// Records name calls of the file, each once: a thread's calls in their order, one at a time.
+fn check_calls(file: &Fields, records: &[[u8; 16]]) -> Result<(), String> {
+    let mut seen = [0; 16];
+    let mut open = [false; 16];
+    for record in records {
+        claim(record[0] < file.n, "a record names a thread of the file")?;
+        let thread = usize::from(record[0]);
+        claim(
+            record[1] < file.counts[thread],
+            "a record names a request of its thread",
+        )?;
+        claim(
+            record[1] == seen[thread],
+            "a thread's records name its requests once, in order",
+        )?;
+        claim(
+            !open[thread],
+            "a thread begins no call before its last one has returned",
+        )?;
+        claim(record[12] <= 1, "byte 12 is 0 or 1")?;
+        claim(record[15] == 0, "byte 15 is 0")?;
+        seen[thread] += 1;
+        open[thread] = !returned(record);
+    }
+    Ok(())
+}
+
+/// The applied requests are the first ones in Swap order, answered as by the plain object.
+fn check_answers(file: &Fields, records: &[[u8; 16]]) -> Result<(), String> {
+    let mut object = Plain::new(file);
+    let a = applied(records);
+    for record in &records[..a] {
+        let answer = object.answer(request(file, record));
+        claim(
+            (record[2], number(record, 4)) == answer,
+            "the answer is the plain object's",
+        )?;
+        claim(record[3] < file.n, "the server is a thread of the file")?;
+    }
+    for record in &records[a..] {
+        claim(
+            record[2] == 255,
+            "no request is applied before an earlier one in Swap order",
+        )?;
+        claim(number(record, 4) == 0, "value 0 while not applied")?;
+        claim(record[3] == 255, "server 255 while not applied")?;
+        claim(turn(record) == 65_535, "turn 65535 while not applied")?;
+        claim(!returned(record), "a returned call is served")?;
+    }
+    Ok(())
+}
+
+/// Turns follow one another in Swap order; each has one server, which serves itself first, and
+/// serves at most h. Only the last turn begun may have served none yet.
+fn check_turns(file: &Fields, counts: &Counts, records: &[[u8; 16]]) -> Result<(), String> {
+    let a = applied(records);
+    let mut turns = 0;
+    let mut served = 0;
+    let mut server = 255;
+    for record in &records[..a] {
+        if turn(record) == turns {
+            claim(
+                record[3] == record[0],
+                "a turn serves its own thread's call first",
+            )?;
+            turns += 1;
+            served = 0;
+            server = record[3];
+        }
+        claim(
+            turn(record) + 1 == turns,
+            "turns are numbered in Swap order, without a gap",
+        )?;
+        claim(
+            record[3] == server,
+            "all records of one turn have one server",
+        )?;
+        claim(
+            served == 0 || record[3] != record[0],
+            "a turn serves its own thread once",
+        )?;
+        served += 1;
+        claim(served <= u32::from(file.h), "no turn serves more than h")?;
+    }
+    claim(
+        counts.turns == turns || counts.turns == turns + 1,
+        "only the last turn has served none",
+    )?;
+    claim(
+        counts.turns == turns || a < records.len(),
+        "a turn has its own call to serve",
+    )
+}
+
+/// The bounds on a returned call, and what the total is beside the records' costs.
+fn check_costs(file: &Fields, counts: &Counts, records: &[[u8; 16]]) -> Result<(), String> {
+    let mut sum = 0;
+    for (i, record) in records.iter().enumerate() {
+        sum += u64::from(number(record, 8));
+        if returned(record) && record[3] == record[0] {
+            let k = records[i..]
+                .iter()
+                .take_while(|other| turn(other) == turn(record))
+                .count();
+            claim(
+                number(record, 8) as usize <= 5 * k + 7,
+                "a call that combined costs at most 5k + 7",
+            )?;
+        } else if returned(record) {
+            claim(
+                number(record, 8) <= 10,
+                "a call served by another thread costs at most 10",
+            )?;
+        }
+    }
+    let total = u64::from(counts.remote);
+    claim(
+        sum <= total,
+        "the total is at least the sum over the records",
+    )?;
+    // Before its Swap a call has at most the three accesses of lines 2 to 4.
+    let calling = (0..file.n).filter(|&thread| !exhausted(file, records, thread));
+    let unswapped = calling
+        .filter(|&thread| open_call(records, thread).is_none())
+        .count();
+    claim(
+        total - sum <= 3 * unswapped as u64,
+        "a call before its Swap costs at most 3",
+    )
+}
+
+/// How far one entry takes the counts.
+fn check_counts(before: &After, after: &After) -> Result<(), String> {
+    let (old, new) = (before.counts, after.counts);
+    claim(
+        grows(old.records, new.records, 1),
+        "an entry adds 0 or 1 to the records",
+    )?;
+    claim(
+        grows(old.turns, new.turns, 1),
+        "an entry adds 0 or 1 to the turns",
+    )?;
+    claim(
+        grows(old.blanks, new.blanks, 1),
+        "an entry adds 0 or 1 to the blanks",
+    )?;
+    claim(
+        grows(old.spins, new.spins, 1),
+        "an entry adds 0 or 1 to the spins",
+    )?;
+    claim(
+        grows(old.remote, new.remote, 2),
+        "an entry adds 0 to 2 to the remote references",
+    )
+}
+
+/// What one entry may change in the records: it serves one, or its thread's own call goes on.
+fn check_records(before: &After, entry: u8, after: &After) -> Result<(), String> {
+    let a = applied(before.records);
+    let own = open_call(before.records, entry);
+    let remote = after.counts.remote - before.counts.remote;
+    for (i, (old, new)) in before.records.iter().zip(after.records).enumerate() {
+        claim(old[..2] == new[..2], "thread and request of a record stay")?;
+        claim(old[12] <= new[12], "a returned call stays returned")?;
+        if i != a {
+            let same = old[2..8] == new[2..8] && old[13..15] == new[13..15];
+            claim(
+                same,
+                "an entry applies only the next request in Swap order, and once",
+            )?;
+        }
+        if own == Some(i) {
+            let cost = number(old, 8).checked_add(remote);
+            claim(
+                cost == Some(number(new, 8)),
+                "an entry's remote references are its call's",
+            )?;
+        } else {
+            claim(
+                old[8..13] == new[8..13],
+                "an entry changes no other call's cost and return",
+            )?;
+        }
+    }
+    Ok(())
+}
+
+/// An entry is at most one of: Swap, begin of a turn, blank, spin, application, return.
+fn check_entry(file: &Fields, before: &After, entry: u8, after: &After) -> Result<(), String> {
+    let a = applied(before.records);
+    let own = open_call(before.records, entry);
+    let swaps = after.counts.records > before.counts.records;
+    let begins = after.counts.turns > before.counts.turns;
+    let blank = after.counts.blanks > before.counts.blanks;
+    let spins = after.counts.spins > before.counts.spins;
+    let applies = applied(after.records) > a;
+    let returns = own.is_some_and(|i| returned(&after.records[i]));
+    let remote = after.counts.remote - before.counts.remote;
+
+    let events = [swaps, begins, blank, spins, applies, returns];
+    claim(
+        events.iter().filter(|&&event| event).count() <= 1,
+        "an entry is one line",
+    )?;
+    claim(remote <= 1 || applies, "only line 16 has two accesses")?;
+    claim(
+        remote == 0 || !(begins || blank),
+        "line 12 and a blank have no access",
+    )?;
+    claim(
+        blank == exhausted(file, before.records, entry),
+        "an entry is a blank just if its thread has no request left unreturned",
+    )?;
+    claim(
+        own.is_some() || !(begins || spins || applies),
+        "a call begins no turn, spins or serves before Swap",
+    )?;
+    if swaps {
+        let record = &after.records[after.records.len() - 1];
+        claim(
+            record[0] == entry && own.is_none(),
+            "a Swap is one of the entry's thread, idle before",
+        )?;
+        claim(record[2] == 255, "a record begins unserved")?;
+        claim(!returned(record), "a record begins open")?;
+        claim(
+            number(record, 8) <= 4,
+            "a call costs at most 4 up to its Swap",
+        )?;
+    }
+    if begins {
+        claim(
+            own == Some(a),
+            "a turn begins with the first unserved call in Swap order",
+        )?;
+        let ended = applied_turns(before.records) == before.counts.turns;
+        claim(ended, "no turn begins before the last one has served")?;
+    }
+    if spins {
+        let serves_itself = own.is_some_and(|i| before.records[i][3] == entry);
+        claim(!serves_itself, "a call that combined spins no more")?;
+    }
+    if applies {
+        let record = &after.records[a];
+        claim(record[3] == entry, "the server is the entry's thread")?;
+        claim(
+            turn(record) + 1 == before.counts.turns,
+            "an entry serves in the last turn begun",
+        )?;
+        let first = after
+            .records
+            .iter()
+            .position(|other| turn(other) == turn(record));
+        claim(
+            own == first,
+            "the server's own call, still open, is the first of its turn",
+        )?;
+    }
+    if returns {
+        let record = own.map(|i| &before.records[i]);
+        claim(
+            record.is_some_and(|record| record[2] != 255),
+            "a call returns only when it is served",
+        )?;
+    }
+    Ok(())
+}
+
+fn claim(holds: bool, text: &str) -> Result<(), String> {
+    if holds {
+        Ok(())
+    } else {
+        Err(text.to_string())
+    }
+}
+
+fn grows(old: u32, new: u32, most: u32) -> bool {
+    new.checked_sub(old).is_some_and(|more| more <= most)
+}
+
+/// How many requests are applied: the records before the first that isn't.
+fn applied(records: &[[u8; 16]]) -> usize {
+    records.iter().take_while(|record| record[2] != 255).count()
+}
+
+/// How many turns have served.
+fn applied_turns(records: &[[u8; 16]]) -> u32 {
+    let a = applied(records);
+    if a == 0 {
+        0
+    } else {
+        turn(&records[a - 1]) + 1
+    }
+}
+
+/// The record of the thread's call that is past its Swap and has not returned.
+fn open_call(records: &[[u8; 16]], thread: u8) -> Option<usize> {
+    records
+        .iter()
+        .position(|record| record[0] == thread && !returned(record))
+}
+
+/// Whether all requests of the thread have returned.
+fn exhausted(file: &Fields, records: &[[u8; 16]], thread: u8) -> bool {
+    let own = records
+        .iter()
+        .filter(|record| record[0] == thread && returned(record));
+    own.count() == usize::from(file.counts[usize::from(thread)])
+}
+
+fn returned(record: &[u8; 16]) -> bool {
+    record[12] == 1
+}
+
+fn turn(record: &[u8; 16]) -> u32 {
+    u16::from_le_bytes([record[13], record[14]]).into()
+}
+
+fn number(bytes: &[u8], at: usize) -> u32 {
+    u32::from_le_bytes([bytes[at], bytes[at + 1], bytes[at + 2], bytes[at + 3]])
+}
+
+/// The five bytes of the request that a record names.
+fn request<'a>(file: &Fields<'a>, record: &[u8; 16]) -> &'a [u8] {
+    let earlier = &file.counts[..usize::from(record[0])];
+    let number = earlier
+        .iter()
+        .map(|&count| usize::from(count))
+        .sum::<usize>()
+        + usize::from(record[1]);
+    &file.requests[5 * number..5 * number + 5]
+}
+
+/// The plain object of document 01: a list of values or a sum.
+struct Plain {
+    queue: bool,
+    capacity: usize,
+    list: Vec<u32>,
+    sum: u32,
+}
+
+impl Plain {
+    fn new(file: &Fields) -> Self {
+        Plain {
+            queue: file.object == 0,
+            capacity: file.capacity.into(),
+            list: Vec::new(),
+            sum: 0,
+        }
+    }
+
+    /// Mark and value of the answer.
+    fn answer(&mut self, request: &[u8]) -> (u8, u32) {
+        let value = number(request, 1);
+        match request[0] {
+            0 if self.list.len() < self.capacity => {
+                self.list.push(value);
+                (0, 0)
+            }
+            0 => (3, 0),
+            1 if self.list.is_empty() => (2, 0),
+            1 if self.queue => (1, self.list.remove(0)),
+            1 => (1, self.list.pop().unwrap_or(0)),
+            _ => {
+                let sum = self.sum;
+                self.sum = sum.wrapping_add(value);
+                (1, sum)
+            }
+        }
+    }
+}
