@@ -3,9 +3,9 @@ pub mod Each
 pub mod Examples
 pub mod Judging
 pub mod Numbered
+pub mod Passes
 pub mod Prefix
 pub mod Reading
 pub mod Request
 pub mod RoundTrip
 pub mod Size
-pub mod Turns

@@ -1,4 +1,4 @@
--- A loop that lays the rows into a buffer keeps what is left to lay: laws for its start, a turn and its end. Assumes nothing.
+-- A loop that lays the rows into a buffer keeps what is left to lay: laws for its start, a pass and its end. Assumes nothing.
 use Prim.Native.Nat.{ℕ, _+_, _-_, _*_, _≤_, _<_}
 use native.Mathlib.Omega.{arith}
 use mathlib.Core.Path.{_≡_, refl, sym, ap, _∙_}
@@ -62,8 +62,8 @@ module _ (counts requests : List ℕ) where
       pub room : next + (1 + (end - from)) + length (Rest (i + 1) end) ≡ at + length (interleaved counts requests)
       room = omega (arith, l .ahead, ap length (rest-row i from below) ∙ length-append (Row i from end) (Rest (i + 1) end), row-length)
 
-      pub turns : {after : List ℕ} → after ≡ pasted buffer next (Row i from end) → Laying after (next + (1 + (end - from))) end (i + 1)
-      turns {after} e = record {
+      pub passes : {after : List ℕ} → after ≡ pasted buffer next (Row i from end) → Laying after (next + (1 + (end - from))) end (i + 1)
+      passes {after} e = record {
         counted = omega arith;
         asked = omega (arith, l .asked, total-more counts i below);
         size = ap length e ∙ length-pasted buffer next (Row i from end) (omega (arith, room, row-length, l .size)) ∙ l .size;

@@ -1,4 +1,4 @@
--- A loop that tests the first places of a list, one a turn, keeps what is left to test: laws for a turn, a test that fails and the loop's end.
+-- A loop that tests the first places of a list, one a pass, keeps what is left to test: laws for a pass, a test that fails and the loop's end.
 -- Assumes nothing.
 use Prim.Native.Nat.{ℕ, _+_, _≤_, _<_}
 use native.Mathlib.Numerals.{add-one}

@@ -1,15 +1,15 @@
--- `bench_file::read_entries` meets its contract: a loop that reads so many entries, one a turn. Assumes nothing.
+-- `bench_file::read_entries` meets its contract: a loop that reads so many entries, one a pass. Assumes nothing.
 use Prim.Native.Nat.{_-_}
 use native.Mathlib.Omega.{arith}
 use borrow.Author.Needs.{needs}
 use Rattle.bench_file.specs.Layout.{entryReader}
 use Rattle.bench_file.specs.Cursor.{one}
-use Rattle.bench_file.proofs.Turns.{Turning, begins, turns, refuses, ends}
+use Rattle.bench_file.proofs.Passes.{Passing, begins, passes, refuses, ends}
 use Rattle.bench_file.proofs.read_entries.Statement.{statement}
 use Rattle.bench_file.proofs.read_entries.Tie as tie
 
 abbrev Inv-loop : tie.InvT-loop
-Inv-loop s at n count next₀ done₀ i₀ next done i = Turning (entryReader n) one s at count next done i
+Inv-loop s at n count next₀ done₀ i₀ next done i = Passing (entryReader n) one s at count next done i
 
 abbrev μ-loop : tie.MeasureT-loop
 μ-loop s at n count next₀ done₀ i₀ next done i = count - i
@@ -37,7 +37,7 @@ loop-less c = search needs
 loop-again : tie.Need-loop-again Inv-loop μ-loop
 loop-again c =
     let d = c .before .before .before in
-    turns _ _ _ _ _ (d .before .before .loop .inv) (d .read-entry .ensures .0) (d .before .loop-test .taken) (d .read-entry .ensures .1) (c .before .after .given .1)
+    passes _ _ _ _ _ (d .before .before .loop .inv) (d .read-entry .ensures .0) (d .before .loop-test .taken) (d .read-entry .ensures .1) (c .before .after .given .1)
 
 add-done : tie.Need-add-done Inv-loop μ-loop
 add-done c =

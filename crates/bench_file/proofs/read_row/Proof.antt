@@ -8,7 +8,7 @@ use Rattle.bench_file.specs.Reading.{read, ranged, several}
 use Rattle.bench_file.specs.Layout.{requestReader, rowReader}
 use Rattle.bench_file.specs.Cursor.{sumOver, one}
 use Rattle.bench_file.proofs.Reading.{byte-was, inside}
-use Rattle.bench_file.proofs.Turns.{tallied-same, one-length, ahead-from}
+use Rattle.bench_file.proofs.Passes.{tallied-same, one-length, ahead-from}
 use Rattle.bench_file.proofs.read_row.Statement.{statement}
 use Rattle.bench_file.proofs.read_row.Tie as tie
 

@@ -1,15 +1,15 @@
--- `bench_file::read_rows` meets its contract: a loop that reads the rows of so many threads, one a turn. Assumes nothing.
+-- `bench_file::read_rows` meets its contract: a loop that reads the rows of so many threads, one a pass. Assumes nothing.
 use Prim.Native.Nat.{_-_}
 use native.Mathlib.Omega.{arith}
 use borrow.Author.Needs.{needs}
 use lib.ListN.{length}
 use Rattle.bench_file.specs.Layout.{rowReader}
-use Rattle.bench_file.proofs.Turns.{Turning, begins, turns, refuses, ends}
+use Rattle.bench_file.proofs.Passes.{Passing, begins, passes, refuses, ends}
 use Rattle.bench_file.proofs.read_rows.Statement.{statement}
 use Rattle.bench_file.proofs.read_rows.Tie as tie
 
 abbrev Inv-loop : tie.InvT-loop
-Inv-loop s at object n next₀ done₀ i₀ next done i = Turning (rowReader object) length s at n next done i
+Inv-loop s at object n next₀ done₀ i₀ next done i = Passing (rowReader object) length s at n next done i
 
 abbrev μ-loop : tie.MeasureT-loop
 μ-loop s at object n next₀ done₀ i₀ next done i = n - i
@@ -37,7 +37,7 @@ loop-less c = search needs
 loop-again : tie.Need-loop-again Inv-loop μ-loop
 loop-again c =
     let d = c .before .before .before in
-    turns _ _ _ _ _ (d .before .before .loop .inv) (d .read-row .ensures .0) (d .before .loop-test .taken) (d .read-row .ensures .1) (c .before .after .given .1)
+    passes _ _ _ _ _ (d .before .before .loop .inv) (d .read-row .ensures .0) (d .before .loop-test .taken) (d .read-row .ensures .1) (c .before .after .given .1)
 
 add-done : tie.Need-add-done Inv-loop μ-loop
 add-done c =

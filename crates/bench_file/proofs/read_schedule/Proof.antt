@@ -9,7 +9,7 @@ use Rattle.bench_file.specs.Reading.{several}
 use Rattle.bench_file.specs.Layout.{entryReader, scheduleReader}
 use Rattle.bench_file.specs.Cursor.{sumOver, one}
 use Rattle.bench_file.proofs.Reading.{field-at, field-cut-at}
-use Rattle.bench_file.proofs.Turns.{tallied-same, one-length, ahead-from}
+use Rattle.bench_file.proofs.Passes.{tallied-same, one-length, ahead-from}
 use Rattle.bench_file.proofs.read_schedule.Statement.{statement}
 use Rattle.bench_file.proofs.read_schedule.Tie as tie
 

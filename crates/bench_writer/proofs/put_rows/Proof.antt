@@ -1,9 +1,9 @@
--- `bench_writer::put_rows` meets its contract: a loop that lays the rows, one a turn. Assumes nothing.
+-- `bench_writer::put_rows` meets its contract: a loop that lays the rows, one a pass. Assumes nothing.
 use Prim.Native.Nat.{ℕ, _+_, _-_, _*_, _≤_}
 use native.Mathlib.Omega.{arith}
 use lib.ListN.{length, getD}
 use borrow.Author.Needs.{needs}
-use Rattle.bench_writer.proofs.Laying.{Laying, begins, inside, part-length, room, turns, ends}
+use Rattle.bench_writer.proofs.Laying.{Laying, begins, inside, part-length, room, passes, ends}
 use Rattle.bench_writer.proofs.put_rows.Statement.{statement}
 use Rattle.bench_writer.proofs.put_rows.Tie as tie
 
@@ -76,7 +76,7 @@ loop-less c = search needs
 loop-again : tie.Need-loop-again Inv-loop μ-loop
 loop-again c =
     let at = c .before .before .before .before .before .before in
-    turns _ _ _ _ (at .before .loop .inv) (given at .pre .1) (at .loop-test .taken) (c .before .before .put-row .ensures)
+    passes _ _ _ _ (at .before .loop .inv) (given at .pre .1) (at .loop-test .taken) (c .before .before .put-row .ensures)
 
 same-length : tie.Need-same-length Inv-loop μ-loop
 same-length c = c .before .loop .inv .size

@@ -1,4 +1,4 @@
--- A loop that reads so many of a kind, one a turn, keeps what is left to read: laws for its start, a turn, a refusal and its end.
+-- A loop that reads so many of a kind, one a pass, keeps what is left to read: laws for its start, a pass, a refusal and its end.
 -- Assumes nothing.
 use Prim.Native.Nat.{ℕ, suc, _+_, _-_, _≤_, _<_}
 use native.Mathlib.Nat.{add-zero, sub-zero}
@@ -30,11 +30,11 @@ module _ {A : Type 0} (reader : Reader A) (tally : A → ℕ) where
   abbrev pub Left : List ℕ → ℕ → ℕ → ℕ → ℕ → Outcome ℕ
   Left s count i sum next = tallied (λ l. sum + sumOver tally l) (several (count - i) reader (drop next s))
 
-  turn : (k sum x : ℕ) (bs mid : List ℕ) (o : Outcome A) → reader bs ≡ o → tallied tally o ≡ read x mid
+  pass : (k sum x : ℕ) (bs mid : List ℕ) (o : Outcome A) → reader bs ≡ o → tallied tally o ≡ read x mid
       → tallied (λ l. sum + sumOver tally l) (several (suc k) reader bs) ≡ tallied (λ l. sum + x + sumOver tally l) (several k reader mid)
   unfolding several sumOver
-  turn k sum x bs mid (refused refusal) e t = let z : _≡_ {A = ℕ} 0 1 = cc in absurd (omega arith)
-  turn k sum x bs mid (read a rest) e t =
+  pass k sum x bs mid (refused refusal) e t = let z : _≡_ {A = ℕ} 0 1 = cc in absurd (omega arith)
+  pass k sum x bs mid (read a rest) e t =
       let p : tally a ≡ x = cc in
       let q : rest ≡ mid = cc in
       rw (e, q) (tallied-cons (λ l. sum + sumOver tally l) a (several k reader mid)
@@ -53,7 +53,7 @@ module _ {A : Type 0} (reader : Reader A) (tally : A → ℕ) where
     pub left-more : (i sum next x mid : ℕ) → i < count → tallied tally (reader (drop next s)) ≡ read x (drop mid s) → Left s count i sum next ≡ Left s count (i + 1) (sum + x) mid
     left-more i sum next x mid h e =
         let k : count - i ≡ suc (count - (i + 1)) = omega arith in
-        rw k (turn (count - (i + 1)) sum x (drop next s) (drop mid s) (reader (drop next s)) refl e)
+        rw k (pass (count - (i + 1)) sum x (drop next s) (drop mid s) (reader (drop next s)) refl e)
 
     pub left-refused : (i sum next refusal : ℕ) → i < count → tallied tally (reader (drop next s)) ≡ refused refusal → Left s count i sum next ≡ refused refusal
     left-refused i sum next refusal h e =
@@ -71,22 +71,22 @@ ahead-from s at from (Reached.Refused refusal) h a = tt
 
 -- what such a loop keeps: i of `count` were read from `at` on, `done` tallied, and `next` is the place behind them
 module _ {A : Type 0} (reader : Reader A) (tally : A → ℕ) (s : List ℕ) (at count : ℕ) where
-  pub record Turning (next sum i : ℕ) : Type 0 where
+  pub record Passing (next sum i : ℕ) : Type 0 where
     pub counted : i ≤ count
     pub ahead : (at + sum ≤ next) × (next ≤ length s)
     pub left : tallied (sumOver tally) (several count reader (drop at s)) ≡ Left reader tally s count i sum next
 
-  pub begins : at ≤ length s → Turning at 0 0
+  pub begins : at ≤ length s → Passing at 0 0
   begins h = record { counted = omega arith; ahead = omega arith; left = left-all reader tally s count at }
 
-  module _ {next sum i : ℕ} (t : Turning next sum i) {r : Reached} (e : reached s r ≡ tallied tally (reader (drop next s))) where
-    pub turns : {mid x : ℕ} → i < count → Ahead s next r → r ≡ Reached.At mid x → Turning mid (sum + x) (i + 1)
-    turns {mid} {x} h a z =
+  module _ {next sum i : ℕ} (t : Passing next sum i) {r : Reached} (e : reached s r ≡ tallied tally (reader (drop next s))) where
+    pub passes : {mid x : ℕ} → i < count → Ahead s next r → r ≡ Reached.At mid x → Passing mid (sum + x) (i + 1)
+    passes {mid} {x} h a z =
         let b : Ahead s next (Reached.At mid x) = rw z at a in
         record { counted = omega arith; ahead = omega (arith, t .ahead); left = t .left ∙ left-more reader tally s count i sum next x mid h (sym e ∙ rw z) }
 
     pub refuses : {refusal : ℕ} → i < count → r ≡ Reached.Refused refusal → refused refusal ≡ tallied (sumOver tally) (several count reader (drop at s))
     refuses {refusal} h z = sym (t .left ∙ left-refused reader tally s count i sum next refusal h (sym e ∙ rw z))
 
-  pub ends : {next sum i : ℕ} → Turning next sum i → count ≤ i → read sum (drop next s) ≡ tallied (sumOver tally) (several count reader (drop at s))
+  pub ends : {next sum i : ℕ} → Passing next sum i → count ≤ i → read sum (drop next s) ≡ tallied (sumOver tally) (several count reader (drop at s))
   ends {next} {sum} {i} t h = sym (t .left ∙ left-none reader tally s count i sum next h)
