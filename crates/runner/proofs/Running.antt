@@ -95,10 +95,10 @@ module _ (f : Fields) (bytes : List ℕ) (fits : InRange f) where
     each : Each (λ t. t < f .head .n) (t .0 ∷ drop (i + 1) bytes)
     each = rw here at (x .left)
 
-    below : t .0 < s .n
+    pub below : t .0 < s .n
     below = omega (arith, each .0, x .going .n)
 
-    few : length (x .past) < 32768
+    pub few : length (x .past) < 32768
     few = omega (arith, ap length here, x .short)
 
     -- the numbers that the entry reads are within the arrays
@@ -145,7 +145,7 @@ module _ (f : Fields) (bytes : List ℕ) (fits : InRange f) where
     pub their-below : served s t given < 256
     their-below = served-below f fits s (x .past) t below (x .going) (x .layers) few (x .tables)
 
-    running-next : (d : Kept)
+    pub running-next : (d : Kept)
         → Running f bytes (i + 1) (entered s t) (servedCalls s t d given turns (enteredCalls s t d kept)) (orderAfter s t order) (givenAfter s t given) (turnsAfter s t turns)
     running-next d = record {
       past = entryOf s t ∷ x .past;
@@ -204,9 +204,9 @@ module _ (f : Fields) (bytes : List ℕ) (fits : InRange f) where
             at,
           ) (running-next d)
 
--- a state with another object: line 16 alone puts it in its place
-abbrev withObject : State → Object → State
-withObject s ob = record {
+-- a state with another object and other counts
+abbrev pub changed : State → Object → Counts → State
+changed s ob counts = record {
   n = s .n;
   h = s .h;
   kind = s .kind;
@@ -217,8 +217,12 @@ withObject s ob = record {
   requests = s .requests;
   copies = s .copies;
   object = ob;
-  counts = s .counts;
+  counts = counts;
 }
+
+-- line 16 alone puts an object in its place
+abbrev withObject : State → Object → State
+withObject s ob = changed s ob (s .counts)
 
 -- what the branch for line 16 leaves: the answer and the state with what was applied, if anything was
 pub record Serves (s J : State) (answer : Answer) (ob : Applied) : Type 0 where

@@ -3,6 +3,7 @@ ghost use mathlib.Core.Path.{_≡_};
 ghost use Rattle.bench_file.specs.Layout.{judgeOf};
 ghost use Rattle.runner.specs.Played.{fieldsIn, Startable, playedOf, unplayed, playedIn};
 use kept::Kept;
+use machine::Field;
 use machine::ThreadId;
 use object::Answer;
 use state::Counts;
@@ -38,6 +39,17 @@ fn from_start(file: &[u8], schedule: usize, start: State) -> Played
         let t = thread.0 as usize;
         let named = state.threads[t];
         let line = machine::line_run(named);
+        // A spin on a valid copy changes nothing but the count of spins.
+        if line == 9 {
+            let cur = named.cur;
+            let c = cur.0 as usize;
+            let at = copies::place(cur, Field::Wait);
+            if state.nodes[c].wait & copies::has_copy(state.copies[at], thread) {
+                state.counts.spins += 1;
+                i += 1;
+                continue;
+            }
+        }
         let row = rows[line as usize];
         let pointer = row.node;
         let target = machine::pointed(pointer, named);

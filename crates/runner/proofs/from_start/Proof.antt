@@ -1,7 +1,8 @@
--- `runner::from_start` meets its contract: its loop keeps `Looping` of Running.antt. Assumes nothing.
+-- `runner::from_start` meets its contract: its loop keeps `Looping` of Running.antt, also over the spins of Spinning.antt. Assumes nothing.
 use Prim.Native.Nat.{ℕ, _-_, _<_}
 use native.Mathlib.Omega.{arith}
-use mathlib.Core.Path.{_≡_, refl, ap, ap₂, _∙_}
+use mathlib.Core.Path.{_≡_, refl, sym, ap, ap₂, _∙_}
+use mathlib.Core.Bool.{and-eq-true-iff}
 use mathlib.Core.Logic.{⊎-elim}
 use mathlib.Core.List.{List, _∷_}
 use lib.ListN.{length, getD, replicate, List·getD-map}
@@ -17,9 +18,10 @@ use Rattle.machine.specs.Effect.{effectOf}
 use Rattle.machine.specs.Lines.{Blank, printed, lineOf, silent, rowOf, accessesOf}
 use Rattle.copies.specs.Remote.{Referred, referred}
 use Rattle.state.specs.declared.State.{State}
-use Rattle.step.specs.Entry.{zeroNode, zeroSlot, named, servedBy, appliedAt}
+use Rattle.step.specs.Entry.{zeroNode, zeroSlot, named, line, servedBy, appliedAt}
 use Rattle.step.proofs.Entering.{is-target, Called}
 use Rattle.runner.proofs.Running.{Looping, thread-few, line-few, node-few, slot-few, call-below, their-below, is-call, is-served, Serves, at-16, not-at-16, looping-start, looping-next, looping-ends}
+use Rattle.runner.proofs.Spinning.{spin-target, Spins, spins-fit, looping-spin}
 use Rattle.runner.proofs.from_start.Statement.{statement}
 use Rattle.runner.proofs.from_start.Tie as tie
 
@@ -35,16 +37,22 @@ abbrev μ-loop : tie.MeasureT-loop
 abbrev entry : tie.After-line-run Inv-loop μ-loop → tie.In-loop Inv-loop μ-loop
 entry c = c .before .before .before .before
 
+abbrev tested : tie.After-place Inv-loop μ-loop → tie.Then1 Inv-loop μ-loop
+tested c = c .before .before .before
+
+abbrev entry-spun : tie.Then2 Inv-loop μ-loop → tie.In-loop Inv-loop μ-loop
+entry-spun c = entry (tested (c .before .before .before) .before)
+
 abbrev lined : tie.After-pointed Inv-loop μ-loop → tie.After-line-run Inv-loop μ-loop
-lined c = c .before .before
+lined c = c .before .before .before
 
 abbrev pointed : tie.After-call-place Inv-loop μ-loop → tie.After-pointed Inv-loop μ-loop
 pointed c = c .before .before .before
 
-abbrev placed : tie.Joined1 Inv-loop μ-loop → tie.After-call-place Inv-loop μ-loop
+abbrev placed : tie.Joined3 Inv-loop μ-loop → tie.After-call-place Inv-loop μ-loop
 placed c = c .before .before .before .before
 
-abbrev joined : tie.After-more-of Inv-loop μ-loop → tie.Joined1 Inv-loop μ-loop
+abbrev joined : tie.After-more-of Inv-loop μ-loop → tie.Joined3 Inv-loop μ-loop
 joined c = c .before .before .before .before
 
 abbrev counted : tie.After-call-place2 Inv-loop μ-loop → tie.After-more-of Inv-loop μ-loop
@@ -93,24 +101,46 @@ node-below c =
     let now = at .before .loop .inv in
     node-few _ _ (now .fits) (now .running) (at .loop-test .taken) (is-target (state at) (thread at) (lined c .line-run .ensures) (row-of (lined c)) (c .pointed .ensures))
 
+-- the node of a spin, and what the tests for one said
+at-nine : (c : tie.Then1 Inv-loop μ-loop) → let at = entry (c .before) in line (state at) (thread at) ≡ 9
+at-nine c = sym (c .before .line-run .ensures) ∙ c .if1 .taken
+
+cur-below : (c : tie.Then1 Inv-loop μ-loop) → let at = entry (c .before) in named (state at) (thread at) .cur .0 < 17
+cur-below c =
+    let at = entry (c .before) in
+    let now = at .before .loop .inv in
+    node-few _ _ (now .fits) (now .running) (at .loop-test .taken) (sym (spin-target (state at) (thread at) (at-nine c)))
+
+spins : (c : tie.Then2 Inv-loop μ-loop) → Spins (state (entry-spun c)) (thread (entry-spun c))
+spins c =
+    let test = c .before in
+    let s = state (entry-spun c) in
+    let cur = named s (thread (entry-spun c)) .cur in
+    let found = and-eq-true-iff (getD (s .nodes) (cur .0) zeroNode .wait) (test .has-copy .result) .0 (c .if2 .taken) in
+    record {
+      nine = at-nine (tested (test .before .before));
+      waits = found .0;
+      held = rw (test .has-copy .ensures, test .before .before .place .ensures) at (found .1);
+    }
+
 place-below : (c : tie.After-call-place Inv-loop μ-loop) → c .call-place .result < 256
 place-below c =
     let at = entry (lined (pointed c)) in
     let now = at .before .loop .inv in
     slot-few _ _ (now .fits) (now .running) (at .loop-test .taken) (c .call-place .ensures)
 
-serves : (c : tie.Joined1 Inv-loop μ-loop)
+serves : (c : tie.Joined3 Inv-loop μ-loop)
     → let at = pointed (placed c) in
-    Serves (state (entry (lined at))) (c .if1 .state) (c .if1 .answer) (applied at)
+    Serves (state (entry (lined at))) (c .if3 .state) (c .if3 .answer) (applied at)
 serves c =
     let at = pointed (placed c) in
     let s = state (entry (lined at)) in
     let now = entry (lined at) .before .loop .inv in
     let k = lined at .line-run .result in
     let same = ap₂ (λ (kind : Kind) (capacity : ℕ). servedBy kind capacity (s .object) (req at)) (now .object) (now .room) in
-    ⊎-elim (λ w. at-16 s (c .if1 .state) (c .if1 .answer) k (req at) (w .0 .taken) (w .2 .ensures ∙ same) (w .5) (w .4))
-    (λ w. not-at-16 s (c .if1 .state) (c .if1 .answer) k (req at) (w .0 .left) (w .2) (w .1))
-    (c .if1 .came)
+    ⊎-elim (λ w. at-16 s (c .if3 .state) (c .if3 .answer) k (req at) (w .0 .taken) (w .2 .ensures ∙ same) (w .5) (w .4))
+    (λ w. not-at-16 s (c .if3 .state) (c .if3 .answer) k (req at) (w .0 .left) (w .2) (w .1))
+    (c .if3 .came)
 
 -- what the calls for the entry answered
 called : (c : tie.After-more-of Inv-loop μ-loop)
@@ -164,8 +194,8 @@ unkept-requires c κs = search needs
 loop-holds : tie.Need-loop-holds Inv-loop μ-loop
 loop-holds c = looping-start (c .before .all-rows .ensures) (ap (replicate 256) (c .unkept .ensures)) (c .before .before .before .pre)
 
-shared-slice-read-t52 : tie.Need-shared-slice-read-t52 Inv-loop μ-loop
-shared-slice-read-t52 c = c .before .loop-test .taken
+shared-slice-read-t55 : tie.Need-shared-slice-read-t55 Inv-loop μ-loop
+shared-slice-read-t55 c = c .before .loop-test .taken
 
 cast-t : tie.Need-cast-t Inv-loop μ-loop
 cast-t c = omega (arith, thread-below (c .before .before))
@@ -179,14 +209,47 @@ element-copy-out-named c = thread-below (c .before .before)
 line-run-requires : tie.Need-line-run-requires Inv-loop μ-loop
 line-run-requires c κs = search needs
 
+cast-c : tie.Need-cast-c Inv-loop μ-loop
+cast-c c = omega (arith, cur-below (c .before .before))
+
+place-requires : tie.Need-place-requires Inv-loop μ-loop
+place-requires c κs = search needs
+
+mul-if2 : tie.Need-mul-if2 Inv-loop μ-loop
+mul-if2 c = omega (arith, cur-below (tested c))
+
+element-copy-out-if2 : tie.Need-element-copy-out-if2 Inv-loop μ-loop
+element-copy-out-if2 c = cur-below (tested c)
+
+mul-has-copy : tie.Need-mul-has-copy Inv-loop μ-loop
+mul-has-copy c = omega (arith, c .place .ensures, cur-below (tested c))
+
+element-copy-out-has-copy : tie.Need-element-copy-out-has-copy Inv-loop μ-loop
+element-copy-out-has-copy c = omega (arith, c .place .ensures, cur-below (tested c))
+
+has-copy-requires : tie.Need-has-copy-requires Inv-loop μ-loop
+has-copy-requires c κs = search needs
+
+add-state : tie.Need-add-state Inv-loop μ-loop
+add-state c = let at = entry-spun c in omega (arith, spins-fit (at .before .loop .inv) (at .loop-test .taken) (spins c))
+
+add-i : tie.Need-add-i Inv-loop μ-loop
+add-i c = let at = entry-spun (c .before) in omega (arith, at .loop-test .taken, at .before .before .before .before .before .good)
+
+loop-less : tie.Need-loop-less Inv-loop μ-loop
+loop-less c = omega (arith, entry-spun (c .before) .loop-test .taken)
+
+loop-again : tie.Need-loop-again Inv-loop μ-loop
+loop-again c = let at = entry-spun (c .before) in looping-spin (at .before .loop .inv) (at .loop-test .taken) (spins (c .before))
+
 cast-row : tie.Need-cast-row Inv-loop μ-loop
-cast-row c = omega (arith, line-below c)
+cast-row c = omega (arith, line-below (c .before))
 
 mul-row : tie.Need-mul-row Inv-loop μ-loop
-mul-row c = omega (arith, line-below c)
+mul-row c = omega (arith, line-below (c .before))
 
 array-copy-out-row : tie.Need-array-copy-out-row Inv-loop μ-loop
-array-copy-out-row c = line-below c
+array-copy-out-row c = line-below (c .before)
 
 pointed-requires : tie.Need-pointed-requires Inv-loop μ-loop
 pointed-requires c κs = search needs
@@ -291,14 +354,14 @@ array-set-from-kept-2 c = served-small (c .before .before .before .before .befor
 abbrev call-of : tie.After-after-serving Inv-loop μ-loop → tie.After-call-place2 Inv-loop μ-loop
 call-of c = c .before .before .before .before .before .before .before .before .before
 
-add-i : tie.Need-add-i Inv-loop μ-loop
-add-i c = let at = entry-of (counted (call-of c)) in omega (arith, at .loop-test .taken, at .before .before .before .before .before .good)
+add-i-2 : tie.Need-add-i-2 Inv-loop μ-loop
+add-i-2 c = let at = entry-of (counted (call-of c)) in omega (arith, at .loop-test .taken, at .before .before .before .before .before .good)
 
-loop-less : tie.Need-loop-less Inv-loop μ-loop
-loop-less c = omega (arith, entry-of (counted (call-of c)) .loop-test .taken)
+loop-less-2 : tie.Need-loop-less-2 Inv-loop μ-loop
+loop-less-2 c = omega (arith, entry-of (counted (call-of c)) .loop-test .taken)
 
-loop-again : tie.Need-loop-again Inv-loop μ-loop
-loop-again c =
+loop-again-2 : tie.Need-loop-again-2 Inv-loop μ-loop
+loop-again-2 c =
     let call = call-of c in
     let more = counted call in
     let at = entry-of more in
@@ -326,11 +389,22 @@ from-start-spec =
     all-rows-requires
     unkept-requires
     loop-holds
-    shared-slice-read-t52
+    shared-slice-read-t55
     cast-t
     mul-named
     element-copy-out-named
     line-run-requires
+    cast-c
+    place-requires
+    mul-if2
+    element-copy-out-if2
+    mul-has-copy
+    element-copy-out-has-copy
+    has-copy-requires
+    add-state
+    add-i
+    loop-less
+    loop-again
     cast-row
     mul-row
     array-copy-out-row
@@ -367,7 +441,7 @@ from-start-spec =
     after-serving-requires
     mul-kept-2
     array-set-from-kept-2
-    add-i
-    loop-less
-    loop-again
+    add-i-2
+    loop-less-2
+    loop-again-2
     returns)
