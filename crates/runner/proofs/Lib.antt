@@ -1,5 +1,5 @@
 pub mod Playing
+pub mod Quiet
 pub mod Running
-pub mod Spinning
 pub mod Tabled
 pub mod Tables

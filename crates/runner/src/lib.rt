@@ -39,7 +39,12 @@ fn from_start(file: &[u8], schedule: usize, start: State) -> Played
         let t = thread.0 as usize;
         let named = state.threads[t];
         let line = machine::line_run(named);
-        // A spin on a valid copy changes nothing but the count of spins.
+        // Two kinds of entry change nothing but a count: a blank, and a spin on a valid copy.
+        if line == 0 {
+            state.counts.blanks += 1;
+            i += 1;
+            continue;
+        }
         if line == 9 {
             let cur = named.cur;
             let c = cur.0 as usize;

@@ -1,5 +1,5 @@
--- `runner::from_start` meets its contract: its loop keeps `Looping` of Running.antt, also over the spins of Spinning.antt. Assumes nothing.
-use Prim.Native.Nat.{ℕ, _-_, _<_}
+-- `runner::from_start` meets its contract: its loop keeps `Looping` of Running.antt, also over the quiet entries of Quiet.antt. Assumes nothing.
+use Prim.Native.Nat.{ℕ, _+_, _-_, _^_, _<_}
 use native.Mathlib.Omega.{arith}
 use mathlib.Core.Path.{_≡_, refl, sym, ap, ap₂, _∙_}
 use mathlib.Core.Bool.{and-eq-true-iff}
@@ -20,8 +20,8 @@ use Rattle.copies.specs.Remote.{Referred, referred}
 use Rattle.state.specs.declared.State.{State}
 use Rattle.step.specs.Entry.{zeroNode, zeroSlot, named, line, servedBy, appliedAt}
 use Rattle.step.proofs.Entering.{is-target, Called}
-use Rattle.runner.proofs.Running.{Looping, thread-few, line-few, node-few, slot-few, call-below, their-below, is-call, is-served, Serves, at-16, not-at-16, looping-start, looping-next, looping-ends}
-use Rattle.runner.proofs.Spinning.{spin-target, Spins, spins-fit, looping-spin}
+use Rattle.runner.proofs.Running.{Looping, below, thread-few, line-few, node-few, slot-few, call-below, their-below, is-call, is-served, Serves, at-16, not-at-16, looping-start, looping-next, looping-ends}
+use Rattle.runner.proofs.Quiet.{Quiet, blank-quiet, spin-target, Spins, spinMore, spin-quiet, counts-fit, looping-quiet}
 use Rattle.runner.proofs.from_start.Statement.{statement}
 use Rattle.runner.proofs.from_start.Tie as tie
 
@@ -37,22 +37,25 @@ abbrev μ-loop : tie.MeasureT-loop
 abbrev entry : tie.After-line-run Inv-loop μ-loop → tie.In-loop Inv-loop μ-loop
 entry c = c .before .before .before .before
 
-abbrev tested : tie.After-place Inv-loop μ-loop → tie.Then1 Inv-loop μ-loop
+abbrev nine : tie.Then2 Inv-loop μ-loop → tie.After-line-run Inv-loop μ-loop
+nine c = c .before .before
+
+abbrev tested : tie.After-place Inv-loop μ-loop → tie.Then2 Inv-loop μ-loop
 tested c = c .before .before .before
 
-abbrev entry-spun : tie.Then2 Inv-loop μ-loop → tie.In-loop Inv-loop μ-loop
-entry-spun c = entry (tested (c .before .before .before) .before)
+abbrev entry-spun : tie.Then3 Inv-loop μ-loop → tie.In-loop Inv-loop μ-loop
+entry-spun c = entry (nine (tested (c .before .before .before)))
 
 abbrev lined : tie.After-pointed Inv-loop μ-loop → tie.After-line-run Inv-loop μ-loop
-lined c = c .before .before .before
+lined c = c .before .before .before .before
 
 abbrev pointed : tie.After-call-place Inv-loop μ-loop → tie.After-pointed Inv-loop μ-loop
 pointed c = c .before .before .before
 
-abbrev placed : tie.Joined3 Inv-loop μ-loop → tie.After-call-place Inv-loop μ-loop
+abbrev placed : tie.Joined4 Inv-loop μ-loop → tie.After-call-place Inv-loop μ-loop
 placed c = c .before .before .before .before
 
-abbrev joined : tie.After-more-of Inv-loop μ-loop → tie.Joined3 Inv-loop μ-loop
+abbrev joined : tie.After-more-of Inv-loop μ-loop → tie.Joined4 Inv-loop μ-loop
 joined c = c .before .before .before .before
 
 abbrev counted : tie.After-call-place2 Inv-loop μ-loop → tie.After-more-of Inv-loop μ-loop
@@ -101,27 +104,41 @@ node-below c =
     let now = at .before .loop .inv in
     node-few _ _ (now .fits) (now .running) (at .loop-test .taken) (is-target (state at) (thread at) (lined c .line-run .ensures) (row-of (lined c)) (c .pointed .ensures))
 
--- the node of a spin, and what the tests for one said
-at-nine : (c : tie.Then1 Inv-loop μ-loop) → let at = entry (c .before) in line (state at) (thread at) ≡ 9
-at-nine c = sym (c .before .line-run .ensures) ∙ c .if1 .taken
+-- the place of the next entry is a number of 64 bits
+i-fits : (at : tie.In-loop Inv-loop μ-loop) → at .before .loop .i + 1 < 2 ^ 64
+i-fits at = omega (arith, at .loop-test .taken, at .before .before .before .before .before .good)
 
-cur-below : (c : tie.Then1 Inv-loop μ-loop) → let at = entry (c .before) in named (state at) (thread at) .cur .0 < 17
+-- a blank
+blank : (c : tie.Then1 Inv-loop μ-loop) → let at = entry (c .before) in line (state at) (thread at) ≡ 0
+blank c = sym (c .before .line-run .ensures) ∙ c .if1 .taken
+
+-- the node of a spin, and what the tests for one said
+at-nine : (c : tie.Then2 Inv-loop μ-loop) → let at = entry (nine c) in line (state at) (thread at) ≡ 9
+at-nine c = sym (nine c .line-run .ensures) ∙ c .if2 .taken
+
+cur-below : (c : tie.Then2 Inv-loop μ-loop) → let at = entry (nine c) in named (state at) (thread at) .cur .0 < 17
 cur-below c =
-    let at = entry (c .before) in
+    let at = entry (nine c) in
     let now = at .before .loop .inv in
     node-few _ _ (now .fits) (now .running) (at .loop-test .taken) (sym (spin-target (state at) (thread at) (at-nine c)))
 
-spins : (c : tie.Then2 Inv-loop μ-loop) → Spins (state (entry-spun c)) (thread (entry-spun c))
+spins : (c : tie.Then3 Inv-loop μ-loop) → Spins (state (entry-spun c)) (thread (entry-spun c))
 spins c =
     let test = c .before in
     let s = state (entry-spun c) in
     let cur = named s (thread (entry-spun c)) .cur in
-    let found = and-eq-true-iff (getD (s .nodes) (cur .0) zeroNode .wait) (test .has-copy .result) .0 (c .if2 .taken) in
+    let found = and-eq-true-iff (getD (s .nodes) (cur .0) zeroNode .wait) (test .has-copy .result) .0 (c .if3 .taken) in
     record {
       nine = at-nine (tested (test .before .before));
       waits = found .0;
       held = rw (test .has-copy .ensures, test .before .before .place .ensures) at (found .1);
     }
+
+spun : (c : tie.Then3 Inv-loop μ-loop) → let s = state (entry-spun c) in Quiet s (thread (entry-spun c)) (spinMore (s .counts))
+spun c =
+    let at = entry-spun c in
+    let now = at .before .loop .inv in
+    spin-quiet _ _ (now .running .going .sound) (below _ _ (now .fits) (now .running) (at .loop-test .taken)) (spins c)
 
 place-below : (c : tie.After-call-place Inv-loop μ-loop) → c .call-place .result < 256
 place-below c =
@@ -129,18 +146,18 @@ place-below c =
     let now = at .before .loop .inv in
     slot-few _ _ (now .fits) (now .running) (at .loop-test .taken) (c .call-place .ensures)
 
-serves : (c : tie.Joined3 Inv-loop μ-loop)
+serves : (c : tie.Joined4 Inv-loop μ-loop)
     → let at = pointed (placed c) in
-    Serves (state (entry (lined at))) (c .if3 .state) (c .if3 .answer) (applied at)
+    Serves (state (entry (lined at))) (c .if4 .state) (c .if4 .answer) (applied at)
 serves c =
     let at = pointed (placed c) in
     let s = state (entry (lined at)) in
     let now = entry (lined at) .before .loop .inv in
     let k = lined at .line-run .result in
     let same = ap₂ (λ (kind : Kind) (capacity : ℕ). servedBy kind capacity (s .object) (req at)) (now .object) (now .room) in
-    ⊎-elim (λ w. at-16 s (c .if3 .state) (c .if3 .answer) k (req at) (w .0 .taken) (w .2 .ensures ∙ same) (w .5) (w .4))
-    (λ w. not-at-16 s (c .if3 .state) (c .if3 .answer) k (req at) (w .0 .left) (w .2) (w .1))
-    (c .if3 .came)
+    ⊎-elim (λ w. at-16 s (c .if4 .state) (c .if4 .answer) k (req at) (w .0 .taken) (w .2 .ensures ∙ same) (w .5) (w .4))
+    (λ w. not-at-16 s (c .if4 .state) (c .if4 .answer) k (req at) (w .0 .left) (w .2) (w .1))
+    (c .if4 .came)
 
 -- what the calls for the entry answered
 called : (c : tie.After-more-of Inv-loop μ-loop)
@@ -209,17 +226,29 @@ element-copy-out-named c = thread-below (c .before .before)
 line-run-requires : tie.Need-line-run-requires Inv-loop μ-loop
 line-run-requires c κs = search needs
 
+add-state : tie.Need-add-state Inv-loop μ-loop
+add-state c = let at = entry (c .before) in omega (arith, counts-fit (at .before .loop .inv) (at .loop-test .taken) (blank-quiet _ _ (blank c)))
+
+add-i : tie.Need-add-i Inv-loop μ-loop
+add-i c = omega (arith, i-fits (entry (c .before .before)))
+
+loop-less : tie.Need-loop-less Inv-loop μ-loop
+loop-less c = omega (arith, entry (c .before .before) .loop-test .taken)
+
+loop-again : tie.Need-loop-again Inv-loop μ-loop
+loop-again c = let at = entry (c .before .before) in looping-quiet (at .before .loop .inv) (at .loop-test .taken) (blank-quiet _ _ (blank (c .before)))
+
 cast-c : tie.Need-cast-c Inv-loop μ-loop
 cast-c c = omega (arith, cur-below (c .before .before))
 
 place-requires : tie.Need-place-requires Inv-loop μ-loop
 place-requires c κs = search needs
 
-mul-if2 : tie.Need-mul-if2 Inv-loop μ-loop
-mul-if2 c = omega (arith, cur-below (tested c))
+mul-if3 : tie.Need-mul-if3 Inv-loop μ-loop
+mul-if3 c = omega (arith, cur-below (tested c))
 
-element-copy-out-if2 : tie.Need-element-copy-out-if2 Inv-loop μ-loop
-element-copy-out-if2 c = cur-below (tested c)
+element-copy-out-if3 : tie.Need-element-copy-out-if3 Inv-loop μ-loop
+element-copy-out-if3 c = cur-below (tested c)
 
 mul-has-copy : tie.Need-mul-has-copy Inv-loop μ-loop
 mul-has-copy c = omega (arith, c .place .ensures, cur-below (tested c))
@@ -230,26 +259,26 @@ element-copy-out-has-copy c = omega (arith, c .place .ensures, cur-below (tested
 has-copy-requires : tie.Need-has-copy-requires Inv-loop μ-loop
 has-copy-requires c κs = search needs
 
-add-state : tie.Need-add-state Inv-loop μ-loop
-add-state c = let at = entry-spun c in omega (arith, spins-fit (at .before .loop .inv) (at .loop-test .taken) (spins c))
+add-state-2 : tie.Need-add-state-2 Inv-loop μ-loop
+add-state-2 c = let at = entry-spun c in omega (arith, counts-fit (at .before .loop .inv) (at .loop-test .taken) (spun c))
 
-add-i : tie.Need-add-i Inv-loop μ-loop
-add-i c = let at = entry-spun (c .before) in omega (arith, at .loop-test .taken, at .before .before .before .before .before .good)
+add-i-2 : tie.Need-add-i-2 Inv-loop μ-loop
+add-i-2 c = omega (arith, i-fits (entry-spun (c .before)))
 
-loop-less : tie.Need-loop-less Inv-loop μ-loop
-loop-less c = omega (arith, entry-spun (c .before) .loop-test .taken)
+loop-less-2 : tie.Need-loop-less-2 Inv-loop μ-loop
+loop-less-2 c = omega (arith, entry-spun (c .before) .loop-test .taken)
 
-loop-again : tie.Need-loop-again Inv-loop μ-loop
-loop-again c = let at = entry-spun (c .before) in looping-spin (at .before .loop .inv) (at .loop-test .taken) (spins (c .before))
+loop-again-2 : tie.Need-loop-again-2 Inv-loop μ-loop
+loop-again-2 c = let at = entry-spun (c .before) in looping-quiet (at .before .loop .inv) (at .loop-test .taken) (spun (c .before))
 
 cast-row : tie.Need-cast-row Inv-loop μ-loop
-cast-row c = omega (arith, line-below (c .before))
+cast-row c = omega (arith, line-below (c .before .before))
 
 mul-row : tie.Need-mul-row Inv-loop μ-loop
-mul-row c = omega (arith, line-below (c .before))
+mul-row c = omega (arith, line-below (c .before .before))
 
 array-copy-out-row : tie.Need-array-copy-out-row Inv-loop μ-loop
-array-copy-out-row c = line-below (c .before)
+array-copy-out-row c = line-below (c .before .before)
 
 pointed-requires : tie.Need-pointed-requires Inv-loop μ-loop
 pointed-requires c κs = search needs
@@ -354,14 +383,14 @@ array-set-from-kept-2 c = served-small (c .before .before .before .before .befor
 abbrev call-of : tie.After-after-serving Inv-loop μ-loop → tie.After-call-place2 Inv-loop μ-loop
 call-of c = c .before .before .before .before .before .before .before .before .before
 
-add-i-2 : tie.Need-add-i-2 Inv-loop μ-loop
-add-i-2 c = let at = entry-of (counted (call-of c)) in omega (arith, at .loop-test .taken, at .before .before .before .before .before .good)
+add-i-3 : tie.Need-add-i-3 Inv-loop μ-loop
+add-i-3 c = omega (arith, i-fits (entry-of (counted (call-of c))))
 
-loop-less-2 : tie.Need-loop-less-2 Inv-loop μ-loop
-loop-less-2 c = omega (arith, entry-of (counted (call-of c)) .loop-test .taken)
+loop-less-3 : tie.Need-loop-less-3 Inv-loop μ-loop
+loop-less-3 c = omega (arith, entry-of (counted (call-of c)) .loop-test .taken)
 
-loop-again-2 : tie.Need-loop-again-2 Inv-loop μ-loop
-loop-again-2 c =
+loop-again-3 : tie.Need-loop-again-3 Inv-loop μ-loop
+loop-again-3 c =
     let call = call-of c in
     let more = counted call in
     let at = entry-of more in
@@ -394,17 +423,21 @@ from-start-spec =
     mul-named
     element-copy-out-named
     line-run-requires
-    cast-c
-    place-requires
-    mul-if2
-    element-copy-out-if2
-    mul-has-copy
-    element-copy-out-has-copy
-    has-copy-requires
     add-state
     add-i
     loop-less
     loop-again
+    cast-c
+    place-requires
+    mul-if3
+    element-copy-out-if3
+    mul-has-copy
+    element-copy-out-has-copy
+    has-copy-requires
+    add-state-2
+    add-i-2
+    loop-less-2
+    loop-again-2
     cast-row
     mul-row
     array-copy-out-row
@@ -441,7 +474,7 @@ from-start-spec =
     after-serving-requires
     mul-kept-2
     array-set-from-kept-2
-    add-i-2
-    loop-less-2
-    loop-again-2
+    add-i-3
+    loop-less-3
+    loop-again-3
     returns)
