@@ -3,12 +3,15 @@ use Prim.Native.Nat.{ℕ, _+_, _≤_}
 use native.Mathlib.Nat.{zero-add, add-zero, add-assoc}
 use native.Mathlib.Omega.{arith}
 use mathlib.Core.Path.{_≡_, refl, sym, ap, ap₂, _∙_}
-use mathlib.Core.Bool.{Bool, true, false, cond}
+use mathlib.Core.Bool.{Bool, true, false, cond, false≢true}
 use mathlib.Core.List.{List, [], _∷_, _++_}
 use lib.ListN.{getD, set, length, List·getD-eq-default}
-use Rattle.machine.specs.Lines.{Access}
+use Rattle.machine.specs.declared.NodeId.{NodeId}
+use Rattle.machine.specs.declared.SharedAccess.{SharedAccess}
+use Rattle.machine.specs.declared.SharedAccess.the-variants.{NoAccess, Read, Write, Swap}
+use Rattle.machine.specs.Lines.{Access, accessTo}
 use Rattle.copies.specs.Copies.{hasCopy}
-use Rattle.copies.specs.Remote.{place, located, remoteOf, wordAfter, copiesAfter, referred}
+use Rattle.copies.specs.Remote.{place, located, remoteOf, wordAfter, copiesAfter, referred, isNone}
 use Rattle.copies.proofs.Valid.{none-held}
 
 at-most-one : {r : ℕ} (b : Bool) → r ≡ cond b 0 1 → r ≤ 1
@@ -47,3 +50,14 @@ module _ (n t : ℕ) where
     ap₂ _+_ (p .0) (q .0 ∙ ap (λ (m : List ℕ). referred n t m ys .remote) (p .1 .0)) ∙ sym (remote-append l xs ys),
     q .1 .0 ∙ ap (λ (m : List ℕ). referred n t m ys .copies) (p .1 .0) ∙ sym (copies-append l xs ys),
   )
+
+  -- where no second access is made, the first alone
+  none-made : (l : List ℕ) (node : NodeId) (a : SharedAccess) → isNone a ≡ true → Made n t l (accessTo node a) 0 l
+  none-made l node NoAccess e = (refl, (refl, omega arith))
+  none-made l node (Read field) e = absurd (false≢true e)
+  none-made l node (Write field) e = absurd (false≢true e)
+  none-made l node Swap e = absurd (false≢true e)
+
+  pub one-of-two : {r : ℕ} {l′ : List ℕ} (l : List ℕ) (xs : List Access) (node : NodeId) (a : SharedAccess) → isNone a ≡ true → Made n t l xs r l′
+      → (r ≡ referred n t l (xs ++ accessTo node a) .remote) × (l′ ≡ referred n t l (xs ++ accessTo node a) .copies)
+  one-of-two {r} {l′} l xs node a e p = rw (add-zero r) at (two-referred l xs (accessTo node a) p (none-made l′ node a e))

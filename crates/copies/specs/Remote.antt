@@ -1,10 +1,12 @@
 -- Remote references, from a list of accesses alone: document 01, 'Remote references'.
 use Prim.Native.Nat.{ℕ, _+_, _*_}
-use mathlib.Core.Bool.{Bool, cond}
+use mathlib.Core.Bool.{Bool, true, false, cond}
 use mathlib.Core.List.{List, [], _∷_}
 use lib.ListN.{getD, set}
 use Rattle.machine.specs.declared.Field.{Field}
 use Rattle.machine.specs.declared.Field.the-variants.{Req, Ret, Wait, Completed, Next}
+use Rattle.machine.specs.declared.SharedAccess.{SharedAccess}
+use Rattle.machine.specs.declared.SharedAccess.the-variants.{NoAccess, Read, Write, Swap}
 use Rattle.machine.specs.Lines.{Location, tail, part, Access, read, write, swap}
 use Rattle.copies.specs.Copies.{hasCopy, afterRead, afterWrite}
 
@@ -54,3 +56,10 @@ referred n t copies [] = record { remote = 0; copies = copies }
 referred n t copies (access ∷ accesses) =
     let rest = referred n t (copiesAfter n t access copies) accesses in
     record { remote = remoteOf copies t access + rest .remote; copies = rest .copies }
+
+-- whether a line makes no such access
+abbrev pub isNone : SharedAccess → Bool
+isNone NoAccess = true
+isNone (Read field) = false
+isNone (Write field) = false
+isNone Swap = false

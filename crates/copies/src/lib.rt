@@ -5,7 +5,7 @@ ghost use Prim.Native.Nat.{_≤_};
 ghost use lib.ListN.{getD, set};
 ghost use Rattle.machine.specs.Lines.{part, accessTo, accessesOf};
 ghost use Rattle.copies.specs.Copies.{hasCopy, afterRead, afterWrite};
-ghost use Rattle.copies.specs.Remote.{place, referred};
+ghost use Rattle.copies.specs.Remote.{place, isNone, referred};
 use machine::Field;
 use machine::NodeId;
 use machine::Row;
@@ -105,6 +105,18 @@ fn refer(copies: &mut [u16], access: SharedAccess, node: NodeId, thread: ThreadI
     }
 }
 
+// Whether a line makes no such access.
+fn is_none(access: SharedAccess) -> bool
+    ensures { λ r. ⌜ r ≡ isNone access ⌝ }
+{
+    match access {
+        SharedAccess::NoAccess => true,
+        SharedAccess::Read(_) => false,
+        SharedAccess::Write(_) => false,
+        SharedAccess::Swap => false,
+    }
+}
+
 // The remote references of a line's accesses to its node, and the copies after them.
 pub fn refer_all(copies: &mut [u16; 86], row: Row, node: NodeId, thread: ThreadId, n: u8) -> u8
     ensures { λ r. ⌜ r ≡ referred n (thread .0) (now (copies .entry)) (accessesOf row node) .remote ⌝ }
@@ -113,6 +125,9 @@ pub fn refer_all(copies: &mut [u16; 86], row: Row, node: NodeId, thread: ThreadI
     let first = row.first;
     let second = row.second;
     let one = refer(copies, first, node, thread, n);
+    if is_none(second) {
+        return one;
+    }
     let two = refer(copies, second, node, thread, n);
     one + two
 }
