@@ -1,12 +1,33 @@
-/* The CC-Synch step bench for programs in C: link with libccs.a, which `rt staticlib ccs` builds.
+/* The CC-Synch step bench for programs in C: link with libccs.a (x86-64), which `rt staticlib ccs` builds.
  *
- * Every function takes any bytes, any numbers and any lent buffer, and answers a refusal: CCS_ACCEPTED, 0, or one of the numbers below. Each
- * comment says which numbers a function gives, and what each buffer holds afterwards, refused or not. The file's layout, the record of a call and
- * the listing are those of document 01.
+ * Every function takes any bytes, any numbers and any lent buffer, and answers 0 or the number of a refusal. Each comment says which numbers a
+ * function answers, and what each buffer holds afterwards, refused or not.
  *
  * Pointers: each points to as many bytes or numbers as the length beside it or the parameter says, and is not NULL, even where the length is 0. What
  * is lent for writing overlaps nothing else that is passed. Nothing is kept of a pointer after the call, and no function writes to memory that is
- * not lent to it.
+ * not lent to it. The functions may be called from several threads at once. ccs_run needs 32 KiB of stack, ccs_list 64 KiB, the others 1 KiB.
+ *
+ * The bench file, version 1, numbers low byte first:
+ *   bytes 0 to 2   mark, 'C' 'C' 'S'
+ *   bytes 3 and 4  version, 1
+ *   byte 5         object: 0 queue, 1 stack, 2 counter
+ *   byte 6         n, the number of threads, 1 to 16
+ *   byte 7         h, how many requests a turn serves at most, 1 to 255
+ *   byte 8         capacity, 1 to 64, or 0 for the counter
+ *   per thread     one byte count, 0 to 16, then five bytes for each request: code (0 put, 1 take, 2 add) and a 32-bit value, 0 for a take;
+ *                  a queue and a stack know put and take, a counter knows add
+ *   then           16-bit length of the schedule, 0 to 32,768, and a thread's number, below n, for each entry; then the end
+ *
+ * The record of a call, 16 bytes:
+ *   byte 0         thread
+ *   byte 1         request within the thread, from 0
+ *   byte 2         0 done, 1 value, 2 empty, 3 full, 255 none yet
+ *   byte 3         serving thread, 255 before serving
+ *   bytes 4 to 7   value, 0 unless byte 2 is 1
+ *   bytes 8 to 11  the call's remote references so far
+ *   byte 12        1 once returned, else 0
+ *   bytes 13, 14   turn that served it, 65,535 before serving
+ *   byte 15        0
  */
 #ifndef CCS_H
 #define CCS_H
@@ -18,22 +39,22 @@
 extern "C" {
 #endif
 
-/* The refusals. Fields are judged front to back; at each, CCS_CUT_OFF comes before the field's own rule, then CCS_TRAILING, then CCS_BUFFER. */
+/* The refusals. Of a file, fields are judged front to back; at each, 1 comes before the field's own rule, then 12, then 13. */
 enum {
     CCS_ACCEPTED = 0,
-    CCS_CUT_OFF = 1,          /* a field is cut off by the end; of given fields, a row is too short */
-    CCS_MARK = 2,             /* the mark differs */
-    CCS_VERSION = 3,          /* the version is not 1 */
-    CCS_OBJECT = 4,           /* the object is above 2 */
-    CCS_THREADS = 5,          /* n is outside 1 to 16 */
-    CCS_BOUND = 6,            /* h is 0 */
-    CCS_CAPACITY = 7,         /* the capacity is not allowed for the object */
-    CCS_COUNT = 8,            /* a count of requests is above 16 */
-    CCS_REQUEST = 9,          /* a code is unknown to the object, or a take has a value other than 0 */
-    CCS_SCHEDULE_LENGTH = 10, /* the schedule is longer than 32,768 */
-    CCS_ENTRY = 11,           /* an entry is not below n */
-    CCS_TRAILING = 12,        /* bytes follow the end; of given fields, a row is too long */
-    CCS_BUFFER = 13           /* the lent buffer is too short */
+    CCS_REFUSED_CUT_OFF = 1,          /* a field is cut off by the end; of given fields, a row is too short */
+    CCS_REFUSED_MARK = 2,             /* the mark differs */
+    CCS_REFUSED_VERSION = 3,          /* the version is not 1 */
+    CCS_REFUSED_OBJECT = 4,           /* the object is above 2 */
+    CCS_REFUSED_THREADS = 5,          /* n is outside 1 to 16 */
+    CCS_REFUSED_BOUND = 6,            /* h is 0 */
+    CCS_REFUSED_CAPACITY = 7,         /* the capacity is not allowed for the object */
+    CCS_REFUSED_COUNT = 8,            /* a count of requests is above 16 */
+    CCS_REFUSED_REQUEST = 9,          /* a code is unknown to the object, or a take has a value other than 0 */
+    CCS_REFUSED_SCHEDULE_LENGTH = 10, /* the schedule is longer than 32,768 */
+    CCS_REFUSED_ENTRY = 11,           /* an entry is not below n */
+    CCS_REFUSED_TRAILING = 12,        /* bytes follow the end; of given fields, a row is too long */
+    CCS_REFUSED_BUFFER = 13           /* the lent buffer is too short */
 };
 
 /* The bytes of one record, how many hold the records of every file, and how many the listing of every file. */
@@ -56,34 +77,33 @@ enum {
 
 /* The places of the counts that ccs_run tells. */
 enum {
-    CCS_COUNT_RECORDS, /* one for each Swap done */
-    CCS_COUNT_TURNS,   /* turns begun */
-    CCS_COUNT_BLANKS,  /* entries of an idle thread without a request left */
-    CCS_COUNT_SPINS,   /* reads of wait that found it true */
-    CCS_COUNT_REMOTE,  /* all remote references, those of calls not yet at Swap included */
-    CCS_COUNTS         /* how many counts these are */
+    CCS_RUN_RECORDS, /* one for each Swap done */
+    CCS_RUN_TURNS,   /* turns begun */
+    CCS_RUN_BLANKS,  /* entries of an idle thread without a request left */
+    CCS_RUN_SPINS,   /* reads of wait that found it true */
+    CCS_RUN_REMOTE,  /* all remote references, those of calls not yet at Swap included */
+    CCS_RUN_COUNTS   /* how many counts these are */
 };
 
 /* Judges file as a bench file: 0, or 1 to 12. The numbers are those of the file, or all 0 if it is refused. */
 uint8_t ccs_judge(const uint8_t *file, size_t file_length, size_t numbers[CCS_JUDGED_NUMBERS]);
 
 /* Runs file as a bench file: 0, or 1 to 12 for the file, or 13 where out has fewer than 16 bytes for each request in the file, performed or not.
- * Run: out has one record of 16 bytes for each Swap done, in Swap order, from its first byte on, and every later byte is as it was; the counts are
- * those of the run. Refused: out is as it was, and all counts are 0. */
-uint8_t ccs_run(const uint8_t *file, size_t file_length, uint8_t *out, size_t out_length, uint32_t counts[CCS_COUNTS]);
+ * 0: out has one record for each Swap done, in Swap order, from its first byte on, and every later byte is as it was; the counts are those of the
+ * run. A refusal: out is as it was, and all counts are 0. */
+uint8_t ccs_run(const uint8_t *file, size_t file_length, uint8_t *out, size_t out_length, uint32_t counts[CCS_RUN_COUNTS]);
 
 /* Writes the bench file of given fields: 0, or 4 to 7 for the numbers, 1 or 12 for a row of fewer or more than n counts, 8 for a count, 1 or 12 for
  * fewer or more bytes of requests than the counts ask, 9 for a request, 10 or 11 for the schedule, or 13 where out is shorter than the file, judged in
- * this order. requests has five bytes for each request, thread by thread: code, then value, low byte first.
- * Written: out has the file from its first byte on, every later byte is as it was, and *length is the file's. Refused: out is as it was, and *length
- * is 0. */
+ * this order. requests has the five bytes of each request, thread by thread.
+ * 0: out has the file from its first byte on, every later byte is as it was, and *length is the file's. A refusal: out is as it was, and *length is 0. */
 uint8_t ccs_write(uint8_t object, uint8_t n, uint8_t h, uint8_t capacity, const uint8_t *counts, size_t counts_length, const uint8_t *requests,
                   size_t requests_length, const uint8_t *schedule, size_t schedule_length, uint8_t *out, size_t out_length, size_t *length);
 
-/* Lists file as a bench file, as text: 0, or 13 where the listing is longer than out, which it never is with CCS_ENOUGH_FOR_LISTING bytes. A file
- * that is refused has the listing `refused N`.
- * Listed: out has the text from its first byte on, without a 0 at its end, every later byte is as it was, and *length is the text's. Refused: out is as
- * it was, and *length is 0. */
+/* Lists file as a bench file, as text: 0, or 13 where the listing is longer than out, which it never is with CCS_ENOUGH_FOR_LISTING bytes. The listing
+ * of a file that is refused is `refused N`; that of a run has a head line and a line for each record. Every line ends with a line feed.
+ * 0: out has the text from its first byte on, without a 0 at its end, every later byte is as it was, and *length is the text's. 13: out is as it was,
+ * and *length is 0. */
 uint8_t ccs_list(const uint8_t *file, size_t file_length, uint8_t *out, size_t out_length, size_t *length);
 
 #ifdef __cplusplus

@@ -1,6 +1,7 @@
 //! Measures the library beside the plain Rust implementation of `tests/plain`, in one run: nanoseconds for each entry of a run
 //! with n = 16, and bytes for each second of judging and writing. Each figure is the best of several. Both are given the same files,
-//! and both judge a file, run it and lay its records. The last line is the ratio of the two at 32,768 random entries.
+//! and both judge a file, run it and lay its records. Beside each schedule stands which part of its entries are spins and blanks.
+//! The last line is the ratio of the two at 32,768 random entries.
 #[path = "../tests/inputs/mod.rs"]
 mod inputs;
 #[path = "../tests/plain/mod.rs"]
@@ -20,7 +21,7 @@ const N: u8 = 16;
 /// The schedules that are measured, each with its name and the thread of an entry.
 type Schedule = (&'static str, fn(&mut Random, usize) -> u8);
 
-const SCHEDULES: [Schedule; 4] = [
+const SCHEDULES: [Schedule; 3] = [
     ("random", |random, _| random.below(16) as u8),
     ("round-robin", |_, i| (i % 16) as u8),
     // thread 0 has one entry in 256
@@ -28,9 +29,13 @@ const SCHEDULES: [Schedule; 4] = [
         0 => 0,
         _ => 1 + random.below(15) as u8,
     }),
-    // each call alone, its 21 lines one after the other: no spins
-    ("one call at a time", |_, i| (i / 21 % 16) as u8),
 ];
+
+/// Each call alone, its 21 lines one after the other: every entry is another line than a spin.
+const ONE_BY_ONE: (Schedule, usize) = (
+    ("one call by one", |_, i| (i / 21 % 16) as u8),
+    16 * 16 * 21,
+);
 
 /// A queue, 16 threads with 16 requests each, put and take in turn.
 fn given(schedule: Schedule, length: usize) -> Given {
@@ -66,7 +71,7 @@ fn row(name: &str, best: (Duration, Duration), figure: impl Fn(f64) -> f64) -> f
     let (library, plain) = (best.0.as_secs_f64(), best.1.as_secs_f64());
     let ratio = library / plain;
     println!(
-        "{name:<26} {:>8.1} {:>8.1} {ratio:>8.2}",
+        "{name:<36} {:>8.1} {:>8.1} {ratio:>8.2}",
         figure(library),
         figure(plain)
     );
@@ -101,46 +106,48 @@ fn judges(file: &[u8]) -> (Duration, Duration) {
 
 /// Writes a file from its fields by both; they agree.
 fn writes(given: &Given, file: &[u8]) -> (Duration, Duration) {
-    let fields = plain::Fields {
-        object: given.object,
-        n: given.n,
-        h: given.h,
-        capacity: given.capacity,
-        counts: &given.counts,
-        requests: &given.requests,
-        schedule: &given.schedule,
-    };
     let (mut ours, mut theirs) = (vec![0; file.len()], vec![0; file.len()]);
     let best = best_of_both(
         || {
             black_box(ccs::write(black_box(&given.fields()), &mut ours)).expect("fields in range");
         },
         || {
-            black_box(plain::write(black_box(&fields), &mut theirs)).expect("fields in range");
+            black_box(plain::write(black_box(&given.plain_fields()), &mut theirs))
+                .expect("fields in range");
         },
     );
     assert!(ours == file && theirs == file, "the two disagree");
     best
 }
 
+/// A row for a schedule of so many entries.
+fn schedule_row(schedule: Schedule, length: usize) -> f64 {
+    let file = given(schedule, length).bytes();
+    let counts = ccs::run(&file, &mut [0; ccs::ENOUGH_FOR_RECORDS]).expect("a file in range");
+    let part = |count: u32| format!("{:.0} %", 100.0 * f64::from(count) / length as f64);
+    let (spins, blanks) = (part(counts.spins), part(counts.blanks));
+    let name = format!("{:<15} {length:>6} {spins:>6} {blanks:>6}", schedule.0);
+    row(&name, runs(&file), |time| time * 1e9 / length as f64)
+}
+
 fn main() {
-    println!("ns an entry, n = 16         library    plain    ratio");
+    println!("ns an entry   entries  spins blanks   library    plain    ratio");
     let mut ratio = 0.0;
     for schedule in SCHEDULES {
         for length in LENGTHS {
-            let file = given(schedule, length).bytes();
-            let name = format!("{:<19} {length:>6}", schedule.0);
-            let this = row(&name, runs(&file), |time| time * 1e9 / length as f64);
+            let this = schedule_row(schedule, length);
             if schedule.0 == "random" {
                 ratio = this;
             }
         }
     }
-    println!("MB a second, 34,075 bytes   library    plain    ratio");
+    schedule_row(ONE_BY_ONE.0, ONE_BY_ONE.1);
+    println!("MB a second   bytes                   library    plain    ratio");
     let given = given(SCHEDULES[0], 32_768);
     let file = given.bytes();
     let rate = |time: f64| file.len() as f64 / time / 1e6;
-    row("judge", judges(&file), rate);
-    row("write", writes(&given, &file), rate);
+    for (name, best) in [("judge", judges(&file)), ("write", writes(&given, &file))] {
+        row(&format!("{name:<15} {:>6}", file.len()), best, rate);
+    }
     println!("ratio {ratio:.2}");
 }

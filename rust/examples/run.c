@@ -34,13 +34,13 @@ int main(void)
            judged[CCS_JUDGED_ENTRIES]);
 
     uint8_t records[2 * CCS_RECORD_LENGTH];
-    uint32_t told[CCS_COUNTS];
+    uint32_t told[CCS_RUN_COUNTS];
     refusal = ccs_run(file, file_length, records, sizeof records, told);
     if (refusal != CCS_ACCEPTED) {
         printf("not run: %d\n", refusal);
         return 1;
     }
-    for (uint32_t i = 0; i < told[CCS_COUNT_RECORDS]; i++) {
+    for (uint32_t i = 0; i < told[CCS_RUN_RECORDS]; i++) {
         const uint8_t *call = records + i * CCS_RECORD_LENGTH;
         printf("thread %d, served by thread %d: %u remote references\n", call[0], call[3], number(call + 8));
     }

@@ -1,14 +1,16 @@
 //! The CC-Synch step bench for Rust programs: safe functions over the proved library.
 //!
 //! Each function takes any bytes and any lent buffer, and answers a result or a [`Refusal`]. A refusal leaves the buffer as it was;
-//! otherwise what is written stands from the buffer's first byte on, and every later byte is as it was.
+//! otherwise what is written stands from the buffer's first byte on, and every later byte is as it was. The functions may be
+//! called from several threads at once. [`run`] needs 32 KiB of stack, [`list`] 64 KiB.
 //!
-//! What the library promises of its answers is proved, for every file and every schedule; this package, the linker and the compiler
-//! are not part of that proof. The file's layout, the record of a call and the listing are those of document 01.
+//! What the library promises of its answers is proved, for every file and every schedule; this package, the linker and the
+//! compiler are not part of that proof. The file's layout, the record of a call and the listing are those of document 01;
+//! `include/ccs.h` has the first two.
 mod record;
 mod refusal;
 
-pub use record::{Answer, Record};
+pub use record::{records, Answer, Record, Serving};
 pub use refusal::Refusal;
 
 /// The functions of `include/ccs.h`.
@@ -101,7 +103,7 @@ pub struct Fields<'a> {
     pub capacity: u8,
     /// How many requests each thread has, a byte each.
     pub counts: &'a [u8],
-    /// The requests, thread by thread, five bytes each: code, then value.
+    /// The requests, thread by thread, five bytes each: code, then value, low byte first.
     pub requests: &'a [u8],
     /// The schedule, a thread's number an entry.
     pub schedule: &'a [u8],
@@ -152,8 +154,8 @@ pub fn judge(file: &[u8]) -> Result<Judged, Refusal> {
 /// let mut out = [0xEE; 32];
 /// let counts = ccs::run(&file, &mut out).unwrap();
 /// assert_eq!((counts.records, counts.turns, counts.remote), (1, 1, 9));
-/// let record = ccs::Record::read(&out).unwrap();
-/// assert_eq!(record.answer, Some(ccs::Answer::Value(0)));
+/// let record = ccs::records(&out, &counts).next().unwrap();
+/// assert_eq!(record.serving.unwrap().answer, ccs::Answer::Value(0));
 /// assert!(record.returned);
 /// assert_eq!(out[16..], [0xEE; 16]);
 /// assert_eq!(ccs::run(&file, &mut out[..15]), Err(ccs::Refusal::Buffer));
@@ -238,4 +240,50 @@ pub fn list(file: &[u8], out: &mut [u8]) -> Result<usize, Refusal> {
         )
     };
     unless_refused(number, length)
+}
+
+#[cfg(test)]
+mod tests {
+    use super::*;
+
+    #[test]
+    fn every_number_is_its_refusals() {
+        assert_eq!(Refusal::of(0), None);
+        for number in 1..=255 {
+            let refusal = Refusal::of(number).expect("a refusal");
+            assert_eq!(refusal.number(), number);
+            assert_eq!(matches!(refusal, Refusal::Unlisted(_)), number > 13);
+        }
+    }
+
+    /// What a refusal leaves in the numbers that are lent, whatever they held: 0.
+    #[test]
+    fn numbers_of_a_refusal_are_0() {
+        let file = [0x43, 0x43, 0x53, 1, 0, 2, 1, 1, 0, 1, 2, 5, 0, 0, 0, 0, 0];
+        let mut out = [0xEE; 15];
+        for length in 0..=file.len() {
+            let mut numbers = [usize::MAX; 6];
+            // SAFETY: as in `judge`, `run` and `list`.
+            let judged = unsafe { border::ccs_judge(file.as_ptr(), length, &mut numbers) };
+            assert_eq!(judged == 0, length == file.len());
+            assert_eq!(numbers == [0; 6], judged != 0);
+
+            let mut counts = [u32::MAX; 5];
+            let (at, lent) = (out.as_mut_ptr(), out.len());
+            let ran = unsafe { border::ccs_run(file.as_ptr(), length, at, lent, &mut counts) };
+            assert_eq!(ran, if judged == 0 { 13 } else { judged });
+            assert_eq!(counts, [0; 5]);
+
+            let mut written = usize::MAX;
+            let listed = unsafe { border::ccs_list(file.as_ptr(), length, at, 9, &mut written) };
+            assert_eq!((listed, written), (13, 0));
+        }
+        let mut written = usize::MAX;
+        let (row, at) = (file.as_ptr(), out.as_mut_ptr());
+        // SAFETY: as in `write`.
+        let refusal =
+            unsafe { border::ccs_write(2, 1, 0, 0, row, 1, row, 0, row, 0, at, 15, &mut written) };
+        assert_eq!((refusal, written), (6, 0));
+        assert_eq!(out, [0xEE; 15]);
+    }
 }

@@ -38,11 +38,12 @@ pub enum Refusal {
     Trailing,
     /// 13: the lent buffer is too short.
     Buffer,
-    /// A number that is not in the table. The library gives none; nothing here relies on that.
+    /// A number that is not in the table. The library gives none; this package does not rely on that.
+    #[non_exhaustive]
     Unlisted(u8),
 }
 
-/// The refusals 1 to 13 in order, with their words.
+/// The listed refusals with their words.
 const TABLE: [(Refusal, &str); 13] = [
     (
         Refusal::CutOff,
@@ -75,6 +76,30 @@ const TABLE: [(Refusal, &str); 13] = [
 ];
 
 impl Refusal {
+    /// Document 01's number.
+    ///
+    /// ```
+    /// assert_eq!(ccs::Refusal::Entry.number(), 11);
+    /// ```
+    pub fn number(self) -> u8 {
+        match self {
+            Refusal::CutOff => 1,
+            Refusal::Mark => 2,
+            Refusal::Version => 3,
+            Refusal::Object => 4,
+            Refusal::Threads => 5,
+            Refusal::Bound => 6,
+            Refusal::Capacity => 7,
+            Refusal::Count => 8,
+            Refusal::Request => 9,
+            Refusal::ScheduleLength => 10,
+            Refusal::Entry => 11,
+            Refusal::Trailing => 12,
+            Refusal::Buffer => 13,
+            Refusal::Unlisted(number) => number,
+        }
+    }
+
     /// The refusal of a number; 0 is none.
     ///
     /// ```
@@ -83,35 +108,19 @@ impl Refusal {
     /// assert_eq!(Refusal::of(13), Some(Refusal::Buffer));
     /// ```
     pub fn of(number: u8) -> Option<Refusal> {
-        let place = usize::from(number).checked_sub(1)?;
-        Some(
-            TABLE
-                .get(place)
-                .map_or(Refusal::Unlisted(number), |row| row.0),
-        )
-    }
-
-    /// Document 01's number.
-    ///
-    /// ```
-    /// assert_eq!(ccs::Refusal::Entry.number(), 11);
-    /// ```
-    pub fn number(self) -> u8 {
-        match self {
-            Refusal::Unlisted(number) => number,
-            _ => (1..=13)
-                .find(|&number| Refusal::of(number) == Some(self))
-                .unwrap_or(0),
+        let listed = TABLE.iter().find(|row| row.0.number() == number);
+        match (number, listed) {
+            (0, _) => None,
+            (_, Some(row)) => Some(row.0),
+            (_, None) => Some(Refusal::Unlisted(number)),
         }
     }
 }
 
 impl fmt::Display for Refusal {
     fn fmt(&self, f: &mut fmt::Formatter<'_>) -> fmt::Result {
-        let words = TABLE
-            .iter()
-            .find(|row| row.0 == *self)
-            .map_or("a number that is not listed", |row| row.1);
+        let listed = TABLE.iter().find(|row| row.0 == *self);
+        let words = listed.map_or("a number that is not listed", |row| row.1);
         write!(f, "refused {}: {}", self.number(), words)
     }
 }

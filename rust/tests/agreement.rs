@@ -2,13 +2,14 @@
 mod inputs;
 mod plain;
 
-use ccs::Refusal;
-use inputs::{damaged, Given, Random};
+use ccs::{Answer, Record, Refusal, ENOUGH_FOR_LISTING, ENOUGH_FOR_RECORDS, RECORD_LENGTH};
+use inputs::{damaged, run_by_library, run_plainly, Given, Random};
 use std::fs;
 use std::path::{Path, PathBuf};
 
-/// Every file, every listing and every run fits.
-const LENT: usize = 40_000;
+/// The longest buffer that is lent, and so many bytes before and behind it that are looked at as well.
+const LENT: usize = 70_000;
+const AROUND: usize = 256;
 
 /// Two buffers with one pattern, one for each implementation.
 struct Lent {
@@ -19,20 +20,19 @@ struct Lent {
 impl Lent {
     fn new() -> Lent {
         Lent {
-            library: vec![0; LENT],
-            plain: vec![0; LENT],
+            library: vec![0; LENT + 2 * AROUND],
+            plain: vec![0; LENT + 2 * AROUND],
         }
     }
 
-    /// Lends so many bytes of a pattern to each, which answer alike and leave alike bytes.
+    /// Lends so many bytes of a pattern to each, which answer alike and leave alike bytes, around them too.
     fn alike<T: PartialEq + std::fmt::Debug>(
         &mut self,
         lent: usize,
         library: impl FnOnce(&mut [u8]) -> Result<T, u8>,
         plain: impl FnOnce(&mut [u8]) -> Result<T, u8>,
     ) -> Result<T, u8> {
-        // bytes behind the lent ones have the pattern too, and keep it
-        let shown = (lent + 32).min(LENT);
+        let shown = lent + 2 * AROUND;
         for (i, (a, b)) in self.library[..shown]
             .iter_mut()
             .zip(&mut self.plain)
@@ -41,8 +41,8 @@ impl Lent {
             *a = i as u8 ^ 0xA5;
             *b = *a;
         }
-        let answer = library(&mut self.library[..lent]);
-        assert_eq!(answer, plain(&mut self.plain[..lent]));
+        let answer = library(&mut self.library[AROUND..AROUND + lent]);
+        assert_eq!(answer, plain(&mut self.plain[AROUND..AROUND + lent]));
         assert!(
             self.library[..shown] == self.plain[..shown],
             "the buffers differ"
@@ -53,14 +53,8 @@ impl Lent {
     fn runs(&mut self, file: &[u8], lent: usize) -> Result<[u32; 5], u8> {
         self.alike(
             lent,
-            |out| {
-                let c = ccs::run(file, out).map_err(Refusal::number)?;
-                Ok([c.records, c.turns, c.blanks, c.spins, c.remote])
-            },
-            |out| {
-                let c = plain::run(file, out)?;
-                Ok([c.records, c.turns, c.blanks, c.spins, c.remote])
-            },
+            |out| run_by_library(file, out),
+            |out| run_plainly(file, out),
         )
     }
 
@@ -73,27 +67,24 @@ impl Lent {
     }
 
     fn writes(&mut self, given: &Given, lent: usize) -> Result<usize, u8> {
-        let fields = plain::Fields {
-            object: given.object,
-            n: given.n,
-            h: given.h,
-            capacity: given.capacity,
-            counts: &given.counts,
-            requests: &given.requests,
-            schedule: &given.schedule,
-        };
         self.alike(
             lent,
             |out| ccs::write(&given.fields(), out).map_err(Refusal::number),
-            |out| plain::write(&fields, out),
+            |out| plain::write(&given.plain_fields(), out),
         )
     }
 
     /// Judged, run and listed alike, with enough bytes lent.
     fn agree(&mut self, file: &[u8]) -> Result<(), u8> {
         let judged = judged(file);
-        assert_eq!(self.runs(file, 4096).map(|_| ()), judged);
-        self.lists(file, 23_677).expect("the listing fits");
+        let ran = self.runs(file, ENOUGH_FOR_RECORDS);
+        assert_eq!(ran.map(|_| ()), judged);
+        if let Ok([records, ..]) = ran {
+            let bytes = &self.library[AROUND..][..RECORD_LENGTH * records as usize];
+            assert_eq!(bytes, read_and_laid(bytes), "the records as they are read");
+        }
+        self.lists(file, ENOUGH_FOR_LISTING)
+            .expect("the listing fits");
         judged
     }
 }
@@ -108,6 +99,37 @@ fn judged(file: &[u8]) -> Result<(), u8> {
     });
     assert_eq!(library, plain);
     library.map(|_| ())
+}
+
+/// Records, each read and laid again.
+fn read_and_laid(bytes: &[u8]) -> Vec<u8> {
+    bytes
+        .chunks_exact(RECORD_LENGTH)
+        .flat_map(|bytes| laid(&Record::read(bytes.try_into().expect("16")).expect("a record")))
+        .collect()
+}
+
+/// The 16 bytes of a record, by document 01.
+fn laid(record: &Record) -> [u8; RECORD_LENGTH] {
+    let (mark, server, value, turn) = match record.serving {
+        None => (255, 255, 0, 65_535),
+        Some(serving) => {
+            let (mark, value) = match serving.answer {
+                Answer::Done => (0, 0),
+                Answer::Value(value) => (1, value),
+                Answer::Empty => (2, 0),
+                Answer::Full => (3, 0),
+            };
+            (mark, serving.server, value, serving.turn)
+        }
+    };
+    let mut bytes = [0; RECORD_LENGTH];
+    bytes[..4].copy_from_slice(&[record.thread, record.request, mark, server]);
+    bytes[4..8].copy_from_slice(&value.to_le_bytes());
+    bytes[8..12].copy_from_slice(&record.remote.to_le_bytes());
+    bytes[12] = record.returned.into();
+    bytes[13..15].copy_from_slice(&turn.to_le_bytes());
+    bytes
 }
 
 /// The files of `examples/`, by name.
@@ -134,6 +156,19 @@ fn short_files() -> Vec<Vec<u8>> {
     files
 }
 
+/// The longest file there is.
+fn longest() -> Given {
+    Given {
+        object: 0,
+        n: 16,
+        h: 8,
+        capacity: 64,
+        counts: vec![16; 16],
+        requests: [0, 7, 0, 0, 0].repeat(256),
+        schedule: vec![15; 32_768],
+    }
+}
+
 #[test]
 fn examples_list_as_expected() {
     let names = examples();
@@ -141,7 +176,7 @@ fn examples_list_as_expected() {
     for name in names {
         let file = fs::read(&name).expect("an example");
         let expected = fs::read(name.with_extension("txt")).expect("its listing");
-        let mut text = vec![0; ccs::ENOUGH_FOR_LISTING];
+        let mut text = vec![0; ENOUGH_FOR_LISTING];
         let length = ccs::list(&file, &mut text).expect("enough bytes");
         assert!(text[..length] == expected, "{}", name.display());
         let _ = Lent::new().agree(&file);
@@ -169,13 +204,44 @@ fn random_files() {
             Ok(()) => accepted += 1,
             Err(number) => refusals[usize::from(number)] += 1,
         }
+        // with few bytes lent: the file's refusal comes before 13, and a refusal is listed if it fits
+        if let Err(number) = lent.runs(&file, random.below(200)) {
+            refusals[13] += usize::from(number == 13);
+        }
+        let _ = lent.lists(&file, random.below(14));
     }
     // the inputs reach what they are made for
     assert!(accepted > FILES / 2, "{accepted} accepted");
-    assert!(
-        refusals[1..=12].iter().all(|&seen| seen > 20),
-        "{refusals:?}"
-    );
+    assert!(refusals[1..].iter().all(|&seen| seen > 20), "{refusals:?}");
+}
+
+/// Objects that fill up: every capacity, almost only puts, one call after the other.
+#[test]
+fn full_objects() {
+    let mut random = Random(0x5EED_0004);
+    let mut lent = Lent::new();
+    for capacity in 1..=64 {
+        for object in [0, 1] {
+            let given = Given {
+                object,
+                capacity,
+                requests: (0..256u32)
+                    .flat_map(|i| match random.below(20) {
+                        0 => [1, 0, 0, 0, 0],
+                        _ => [0, i as u8, (i >> 8) as u8, 0, 1],
+                    })
+                    .collect(),
+                schedule: (0..16 * 16 * 21).map(|i| (i / 21 % 16) as u8).collect(),
+                ..longest()
+            };
+            let file = given.bytes();
+            lent.agree(&file).expect("a file in range");
+            lent.runs(&file, ENOUGH_FOR_RECORDS).expect("enough bytes");
+            let records = &lent.library[AROUND..AROUND + ENOUGH_FOR_RECORDS];
+            let full = records.chunks_exact(RECORD_LENGTH).filter(|r| r[2] == 3);
+            assert!(full.count() > 20, "the object fills up");
+        }
+    }
 }
 
 #[test]
@@ -183,22 +249,25 @@ fn random_fields_written() {
     let mut random = Random(0x5EED_0002);
     let mut lent = Lent::new();
     let mut refusals = [0usize; 14];
-    for i in 0..60_000 {
-        let mut given = Given::random(&mut random, if i % 100 == 0 { 3_000 } else { 100 });
-        if random.one_in(2) {
+    for i in 0..200_000 {
+        let mut given = Given::random(&mut random, if i % 100 == 0 { 3_000 } else { 60 });
+        for _ in 0..[0, 0, 1, 1, 2, 3, 4][random.below(7)] {
             spoil(&mut random, &mut given);
         }
+        if i % 50 == 0 {
+            let entry = random.below(18) as u8;
+            given.schedule.resize(32_767 + random.below(4), entry);
+        }
         let length = 11 + given.counts.len() + given.requests.len() + given.schedule.len();
-        let room = if random.one_in(8) {
-            random.below(length)
-        } else {
-            length + random.below(4)
+        let room = match random.below(8) {
+            0 => random.below(length),
+            _ => length + random.below(4),
         };
         match lent.writes(&given, room) {
             Ok(written) => {
-                assert_eq!(written, length);
-                assert_eq!(lent.library[..length], given.bytes(), "the layout's bytes");
-                judged(&lent.library[..length]).expect("what is written is accepted");
+                let bytes = &lent.library[AROUND..AROUND + written];
+                assert_eq!(bytes, given.bytes(), "the layout's bytes");
+                judged(bytes).expect("what is written is accepted");
             }
             Err(number) => refusals[usize::from(number)] += 1,
         }
@@ -210,24 +279,26 @@ fn random_fields_written() {
 
 /// One field out of range, or one row too short or too long.
 fn spoil(random: &mut Random, given: &mut Given) {
-    match random.below(9) {
+    let some = 1 + random.below(6);
+    match random.below(10) {
         0 => given.object = random.byte(),
         1 => given.n = random.byte(),
         2 => given.h = 0,
         3 => given.capacity = random.byte(),
-        4 => {
-            given.counts.pop();
-        }
+        4 => given.counts.truncate(given.counts.len().saturating_sub(1)),
         5 => given.counts.push(random.below(20) as u8),
-        6 => {
+        6 if !given.counts.is_empty() => {
             let place = random.below(given.counts.len());
             given.counts[place] = random.below(20) as u8;
         }
-        7 if !given.requests.is_empty() => {
+        7 => given
+            .requests
+            .truncate(given.requests.len().saturating_sub(some)),
+        8 => given.requests.extend(vec![1; some]),
+        9 if !given.requests.is_empty() => {
             let place = random.below(given.requests.len());
             given.requests[place] = random.below(4) as u8;
         }
-        7 => given.schedule.resize(32_769 + random.below(3), 0),
         _ => given.schedule.push(random.byte()),
     }
 }
@@ -240,17 +311,7 @@ fn every_truncation() {
             let _ = lent.agree(&file[..length]);
         }
     }
-    // the longest file there is: judged at every length
-    let longest = Given {
-        object: 0,
-        n: 16,
-        h: 8,
-        capacity: 64,
-        counts: vec![16; 16],
-        requests: [0, 7, 0, 0, 0].repeat(256),
-        schedule: vec![15; 32_768],
-    };
-    let file = longest.bytes();
+    let file = longest().bytes();
     assert_eq!(file.len(), 34_075);
     for length in 0..=file.len() {
         assert_eq!(judged(&file[..length]).is_ok(), length == file.len());
@@ -279,10 +340,9 @@ fn every_lent_length() {
     for i in 0..300 {
         let given = Given::random(&mut random, 200);
         let file = given.bytes();
-        let calls = given.requests.len() / 5;
-        for length in 0..=16 * calls + 20 {
-            let ran = lent.runs(&file, length);
-            assert_eq!(ran.is_err(), length < 16 * calls);
+        let need = RECORD_LENGTH * given.calls();
+        for length in 0..=need + 20 {
+            assert_eq!(lent.runs(&file, length).is_err(), length < need);
         }
         let text = lent.lists(&file, LENT).expect("the listing fits");
         for length in text.saturating_sub(40)..=text + 20 {
@@ -299,5 +359,29 @@ fn every_lent_length() {
                 assert_eq!(lent.writes(&given, length), Err(13));
             }
         }
+    }
+}
+
+/// Lengths past 16 bits, of a file and of a buffer.
+#[test]
+fn large_lengths() {
+    let mut lent = Lent::new();
+    let file = longest().bytes();
+    for more in [65_536 - 12, 65_536, 1 << 20] {
+        let mut longer = file.clone();
+        longer.resize(file.len() + more, 0);
+        assert_eq!(lent.agree(&longer), Err(12));
+        let mut short = Given::random(&mut Random(9), 20).bytes();
+        short.resize(short.len() + more, 0);
+        assert_eq!(lent.agree(&short), Err(12));
+    }
+    for length in [ENOUGH_FOR_RECORDS - 1, ENOUGH_FOR_RECORDS] {
+        let ran = lent.runs(&file, length);
+        assert_eq!(ran.is_ok(), length == ENOUGH_FOR_RECORDS);
+    }
+    for length in [65_535, 65_536, 65_537, LENT] {
+        lent.runs(&file, length).expect("enough bytes");
+        lent.lists(&file, length).expect("enough bytes");
+        lent.writes(&longest(), length).expect("enough bytes");
     }
 }

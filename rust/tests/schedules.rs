@@ -1,21 +1,23 @@
-//! Every schedule of small files: the library beside the plain Rust implementation, and demand 3's claims on what the library returns, after every cut.
+//! Every schedule of small files, and some of random files: the library beside the plain Rust implementation, and demand 3's claims on what the
+//! library returns, after every cut.
 mod claims;
 mod inputs;
 mod plain;
 
 use ccs::{Counts, RECORD_LENGTH};
 use claims::{check_start, check_step, After};
-use inputs::Given;
+use inputs::{run_by_library, run_plainly, Given, Random};
 
 /// All schedules have so many entries or fewer, for two threads and for three.
 const TWO_THREADS: usize = 18;
-const THREE_THREADS: usize = 10;
+const THREE_THREADS: usize = 11;
 
-/// All beginnings of so many entries are completed, and so many entries complete them.
-const BEGINNINGS: usize = 12;
-const COMPLETING: usize = 90;
+/// All beginnings of so many entries are completed, for two threads and for three, and so many entries for each call complete them.
+const TWO_BEGIN: usize = 10;
+const THREE_BEGIN: usize = 6;
+const COMPLETING: usize = 50;
 
-/// One small file, its schedule so far, and what the library returned for each cut of it.
+/// One file, its schedule so far, and what the library returned for each cut of it.
 struct Walk {
     given: Given,
     calls: usize,
@@ -25,23 +27,16 @@ struct Walk {
 }
 
 impl Walk {
-    fn new(object: u8, h: u8, counts: &[u8], requests: &[[u8; 5]]) -> Walk {
-        let given = Given {
-            object,
-            n: counts.len() as u8,
-            h,
-            capacity: if object == 2 { 0 } else { 1 },
-            counts: counts.to_vec(),
-            requests: requests.concat(),
-            schedule: Vec::new(),
-        };
+    /// A file with an empty schedule.
+    fn new(given: Given) -> Walk {
         let mut walk = Walk {
+            calls: given.calls(),
             given,
-            calls: requests.len(),
             cuts: Vec::new(),
             checked: 0,
             returned: 0,
         };
+        assert!(walk.given.schedule.is_empty());
         let cut = walk.run();
         walk.cuts.push(cut);
         check_start(&walk.given.fields(), &walk.after(0)).expect("the claims at the start");
@@ -53,17 +48,22 @@ impl Walk {
         let file = self.given.bytes();
         let mut out = vec![0x5A; RECORD_LENGTH * self.calls];
         let mut plainly = out.clone();
-        let counts = ccs::run(&file, &mut out).expect("a file in range");
-        let c = plain::run(&file, &mut plainly).expect("a file in range");
-        let same = Counts {
-            records: c.records,
-            turns: c.turns,
-            blanks: c.blanks,
-            spins: c.spins,
-            remote: c.remote,
-        };
-        assert_eq!(counts, same, "{:?}", self.given);
+        let numbers = run_by_library(&file, &mut out);
+        assert_eq!(
+            numbers,
+            run_plainly(&file, &mut plainly),
+            "{:?}",
+            self.given
+        );
         assert_eq!(out, plainly, "{:?}", self.given);
+        let [records, turns, blanks, spins, remote] = numbers.expect("a file in range");
+        let counts = Counts {
+            records,
+            turns,
+            blanks,
+            spins,
+            remote,
+        };
         let records = out
             .chunks_exact(RECORD_LENGTH)
             .take(counts.records as usize);
@@ -122,7 +122,7 @@ impl Walk {
     fn complete(&mut self, burst: usize, first: u8) {
         let begun = self.given.schedule.len();
         let n = usize::from(self.given.n);
-        for i in 0..COMPLETING {
+        for i in 0..COMPLETING * self.calls {
             self.push(((usize::from(first) + i / burst) % n) as u8);
         }
         let (_, records) = &self.cuts[self.cuts.len() - 1];
@@ -145,16 +145,43 @@ const TAKE: [u8; 5] = [1, 0, 0, 0, 0];
 const ADD_5: [u8; 5] = [2, 5, 0, 0, 0];
 const ADD_MOST: [u8; 5] = [2, 255, 255, 255, 255];
 
+/// A small file: of capacity 1, so that a second put is full.
+fn small(object: u8, h: u8, counts: &[u8], requests: &[[u8; 5]]) -> Given {
+    Given {
+        object,
+        n: counts.len() as u8,
+        h,
+        capacity: if object == 2 { 0 } else { 1 },
+        counts: counts.to_vec(),
+        requests: requests.concat(),
+        schedule: Vec::new(),
+    }
+}
+
+/// Two threads with one request each: all objects, all answers.
+fn two_threads() -> Vec<Given> {
+    vec![
+        small(0, 1, &[1, 1], &[PUT_7, TAKE]),
+        small(0, 2, &[1, 1], &[PUT_7, PUT_8]),
+        small(1, 2, &[1, 1], &[TAKE, PUT_7]),
+        small(2, 1, &[1, 1], &[ADD_5, ADD_MOST]),
+    ]
+}
+
+/// Three threads, and a thread with two requests.
+fn more_threads_or_requests() -> Vec<Given> {
+    vec![
+        small(0, 2, &[1, 1, 1], &[PUT_7, TAKE, TAKE]),
+        small(1, 3, &[1, 1, 1], &[PUT_7, PUT_8, TAKE]),
+        small(2, 2, &[2, 1], &[ADD_5, ADD_MOST, ADD_5]),
+        small(0, 1, &[1, 2], &[PUT_7, TAKE, PUT_8]),
+    ]
+}
+
 #[test]
 fn two_threads_one_request_each() {
-    let files = [
-        (0, 1, [PUT_7, TAKE]),
-        (0, 2, [PUT_7, PUT_8]),
-        (1, 2, [TAKE, PUT_7]),
-        (2, 1, [ADD_5, ADD_MOST]),
-    ];
-    for (object, h, requests) in files {
-        let mut walk = Walk::new(object, h, &[1, 1], &requests);
+    for given in two_threads() {
+        let mut walk = Walk::new(given);
         walk.every(TWO_THREADS, &mut |_| {});
         assert_eq!(walk.checked, (1 << (TWO_THREADS + 1)) - 2);
     }
@@ -162,21 +189,42 @@ fn two_threads_one_request_each() {
 
 #[test]
 fn three_threads_one_request_each() {
-    let mut walk = Walk::new(0, 2, &[1, 1, 1], &[PUT_7, TAKE, TAKE]);
+    let mut walk = Walk::new(more_threads_or_requests().swap_remove(0));
     walk.every(THREE_THREADS, &mut |_| {});
     assert_eq!(walk.checked, (3usize.pow(THREE_THREADS as u32 + 1) - 3) / 2);
 }
 
 #[test]
 fn every_beginning_completed() {
-    for h in [1, 2] {
-        let mut walk = Walk::new(0, h, &[1, 1], &[PUT_7, TAKE]);
-        walk.every(BEGINNINGS, &mut |walk| {
+    for given in [two_threads(), more_threads_or_requests()].concat() {
+        let begin = if given.n == 2 { TWO_BEGIN } else { THREE_BEGIN };
+        let beginnings = usize::from(given.n).pow(begin as u32);
+        let mut walk = Walk::new(given);
+        walk.every(begin, &mut |walk| {
             for burst in [1, 30] {
                 walk.complete(burst, 0);
                 walk.complete(burst, 1);
             }
         });
-        assert_eq!(walk.returned, (1 << BEGINNINGS) * 4 * 2);
+        assert_eq!(walk.returned, beginnings * 4 * walk.calls);
     }
+}
+
+#[test]
+fn random_files_cut_everywhere() {
+    let mut random = Random(0x5EED_0005);
+    let (mut checked, mut returned) = (0, 0);
+    for i in 0..600 {
+        let mut given = Given::random(&mut random, if i % 20 == 0 { 2_000 } else { 400 });
+        let schedule = std::mem::take(&mut given.schedule);
+        let mut walk = Walk::new(given);
+        for entry in schedule {
+            walk.push(entry);
+        }
+        let (_, records) = &walk.cuts[walk.cuts.len() - 1];
+        returned += records.iter().filter(|record| record[12] == 1).count();
+        checked += walk.checked;
+    }
+    assert!(checked > 100_000, "{checked} cuts");
+    assert!(returned > 1_500, "{returned} calls returned");
 }

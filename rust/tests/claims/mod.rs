@@ -299,13 +299,6 @@ fn check_entry(file: &Fields, before: &After, entry: u8, after: &After) -> Resul
             "the server's own call, still open, is the first of its turn",
         )?;
     }
-    if returns {
-        let record = own.map(|i| &before.records[i]);
-        claim(
-            record.is_some_and(|record| record[2] != 255),
-            "a call returns only when it is served",
-        )?;
-    }
     Ok(())
 }
 

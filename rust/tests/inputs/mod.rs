@@ -1,7 +1,22 @@
-//! Inputs of the tests and of the benchmark: bench files of random fields, and ways to damage them.
+//! Inputs of the tests and of the benchmark: bench files of random fields, and ways to damage them; and the answers of both implementations in one form.
 
 // Each user of this module needs only a part of it.
 #![allow(dead_code)]
+
+use crate::plain;
+use ccs::Refusal;
+
+/// A run by the library: its five counts, or the refusal's number.
+pub fn run_by_library(file: &[u8], out: &mut [u8]) -> Result<[u32; 5], u8> {
+    let c = ccs::run(file, out).map_err(Refusal::number)?;
+    Ok([c.records, c.turns, c.blanks, c.spins, c.remote])
+}
+
+/// A run by the plain implementation.
+pub fn run_plainly(file: &[u8], out: &mut [u8]) -> Result<[u32; 5], u8> {
+    let c = plain::run(file, out)?;
+    Ok([c.records, c.turns, c.blanks, c.spins, c.remote])
+}
 
 /// Numbers that look random, the same in every run.
 pub struct Random(pub u64);
@@ -58,7 +73,10 @@ impl Given {
         let most = if random.one_in(4) { 17 } else { 4 };
         let counts: Vec<u8> = (0..n).map(|_| random.below(most) as u8).collect();
         let calls = counts.iter().map(|&count| usize::from(count)).sum();
-        let requests = (0..calls).flat_map(|_| request(random, object)).collect();
+        let puts = [1, 1, 4, 30][random.below(4)];
+        let requests = (0..calls)
+            .flat_map(|_| request(random, object, puts))
+            .collect();
         let length = random.below(most_entries + 1);
         let schedule = schedule(random, n, length);
         Given {
@@ -84,6 +102,23 @@ impl Given {
         }
     }
 
+    pub fn plain_fields(&self) -> plain::Fields<'_> {
+        plain::Fields {
+            object: self.object,
+            n: self.n,
+            h: self.h,
+            capacity: self.capacity,
+            counts: &self.counts,
+            requests: &self.requests,
+            schedule: &self.schedule,
+        }
+    }
+
+    /// How many requests the row has room for.
+    pub fn calls(&self) -> usize {
+        self.requests.len() / 5
+    }
+
     /// The file of these fields, by document 01's layout.
     pub fn bytes(&self) -> Vec<u8> {
         let mut bytes = b"CCS\x01\x00".to_vec();
@@ -99,12 +134,11 @@ impl Given {
     }
 }
 
-/// A request that the object knows: its code, and a value that may be small or large.
-fn request(random: &mut Random, object: u8) -> [u8; 5] {
-    let code = if object == 2 {
-        2
-    } else {
-        random.below(2) as u8
+/// A request that the object knows, so many puts for a take: its code, and a value that may be small or large.
+fn request(random: &mut Random, object: u8, puts: usize) -> [u8; 5] {
+    let code = match object {
+        2 => 2,
+        _ => random.one_in(1 + puts).into(),
     };
     let value = match random.below(3) {
         _ if code == 1 => 0,

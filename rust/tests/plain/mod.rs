@@ -73,7 +73,7 @@ pub fn write(fields: &Fields, out: &mut [u8]) -> Result<usize, u8> {
     require(object <= COUNTER, 4)?;
     require((1..=16).contains(&n), 5)?;
     require(h != 0, 6)?;
-    require(capacity_allowed(object, capacity), 7)?;
+    require(capacity_rule(object, capacity), 7)?;
     require(counts.len() >= n.into(), 1)?;
     require(counts.len() <= n.into(), 12)?;
     require(counts.iter().all(|&count| count <= 16), 8)?;
@@ -81,8 +81,8 @@ pub fn write(fields: &Fields, out: &mut [u8]) -> Result<usize, u8> {
     require(requests.len() >= REQUEST * calls, 1)?;
     require(requests.len() <= REQUEST * calls, 12)?;
     for request in requests.chunks_exact(REQUEST) {
-        require(code_known(object, request[0]), 9)?;
-        require(value_allowed(request[0], &request[1..]), 9)?;
+        require(code_rule(object, request[0]), 9)?;
+        require(value_rule(request[0], &request[1..]), 9)?;
     }
     require(schedule.len() <= ENTRIES, 10)?;
     require(all_below(schedule, n), 11)?;
@@ -154,7 +154,7 @@ impl<'a> Bench<'a> {
         let [h] = field(&mut rest)?;
         require(h != 0, 6)?;
         let [capacity] = field(&mut rest)?;
-        require(capacity_allowed(object, capacity), 7)?;
+        require(capacity_rule(object, capacity), 7)?;
         let mut requests = [&file[..0]; 16];
         for own in &mut requests[..n.into()] {
             *own = requests_of_thread(object, &mut rest)?;
@@ -188,9 +188,9 @@ fn requests_of_thread<'a>(object: u8, rest: &mut &'a [u8]) -> Result<&'a [u8], u
     let own = *rest;
     for _ in 0..count {
         let [code] = field(rest)?;
-        require(code_known(object, code), 9)?;
+        require(code_rule(object, code), 9)?;
         let value: [u8; 4] = field(rest)?;
-        require(value_allowed(code, &value), 9)?;
+        require(value_rule(code, &value), 9)?;
     }
     Ok(&own[..REQUEST * usize::from(count)])
 }
@@ -211,7 +211,7 @@ fn require(holds: bool, refusal: u8) -> Result<(), u8> {
     }
 }
 
-fn capacity_allowed(object: u8, capacity: u8) -> bool {
+fn capacity_rule(object: u8, capacity: u8) -> bool {
     if object == COUNTER {
         capacity == 0
     } else {
@@ -219,7 +219,7 @@ fn capacity_allowed(object: u8, capacity: u8) -> bool {
     }
 }
 
-fn code_known(object: u8, code: u8) -> bool {
+fn code_rule(object: u8, code: u8) -> bool {
     if object == COUNTER {
         code == ADD
     } else {
@@ -227,7 +227,7 @@ fn code_known(object: u8, code: u8) -> bool {
     }
 }
 
-fn value_allowed(code: u8, value: &[u8]) -> bool {
+fn value_rule(code: u8, value: &[u8]) -> bool {
     code != TAKE || value == [0; 4]
 }
 

@@ -1,0 +1,173 @@
+/* Every name and every refusal of include/ccs.h, by calls of the functions: the numbers that are lent are told whatever they held, and a refusal
+ * leaves the buffer. Compiled as C and as C++. Prints what differs; the answer is how many do. */
+#include "ccs.h"
+
+#include <stdio.h>
+#include <string.h>
+
+#define PATTERN 0xEE
+
+static int differences = 0;
+
+static void same(const char *name, size_t found, size_t expected)
+{
+    if (found != expected) {
+        printf("%s: %zu, not %zu\n", name, found, expected);
+        differences++;
+    }
+}
+
+/* A counter with two threads that add 5 and 7, h = 3, and 42 entries: thread 0, then thread 1. */
+static uint8_t file[65];
+static const size_t file_length = sizeof file;
+
+static void lay_file(void)
+{
+    static const uint8_t start[23] = {'C', 'C', 'S', 1, 0, 2, 2, 3, 0, 1, 2, 5, 0, 0, 0, 1, 2, 7, 0, 0, 0, 42, 0};
+    memcpy(file, start, sizeof start);
+    memset(file + 23, 0, 21);
+    memset(file + 44, 1, 21);
+}
+
+/* The file with one byte changed, or cut, or with a byte more. */
+static void refused(const char *name, size_t place, uint8_t byte, size_t length, uint8_t expected)
+{
+    uint8_t changed[sizeof file + 1];
+    memcpy(changed, file, sizeof file);
+    changed[sizeof file] = 0;
+    changed[place] = byte;
+
+    size_t numbers[CCS_JUDGED_NUMBERS];
+    memset(numbers, PATTERN, sizeof numbers);
+    same(name, ccs_judge(changed, length, numbers), expected);
+    for (int i = 0; i < CCS_JUDGED_NUMBERS; i++)
+        same(name, numbers[i], 0);
+
+    uint8_t out[CCS_ENOUGH_FOR_RECORDS];
+    uint32_t counts[CCS_RUN_COUNTS];
+    memset(out, PATTERN, sizeof out);
+    memset(counts, PATTERN, sizeof counts);
+    same(name, ccs_run(changed, length, out, sizeof out, counts), expected);
+    for (int i = 0; i < CCS_RUN_COUNTS; i++)
+        same(name, counts[i], 0);
+    for (size_t i = 0; i < sizeof out; i++)
+        same(name, out[i], PATTERN);
+
+    char text[32];
+    size_t told;
+    uint8_t listing[CCS_ENOUGH_FOR_LISTING];
+    same(name, ccs_list(changed, length, listing, sizeof listing, &told), CCS_ACCEPTED);
+    same(name, told, (size_t)sprintf(text, "refused %d\n", expected));
+    same(name, memcmp(listing, text, told) != 0, 0);
+}
+
+static void refused_files(void)
+{
+    const size_t end = sizeof file;
+    refused("cut off", 0, 'C', end - 1, CCS_REFUSED_CUT_OFF);
+    refused("mark", 2, 'T', end, CCS_REFUSED_MARK);
+    refused("version", 3, 2, end, CCS_REFUSED_VERSION);
+    refused("object", 5, 3, end, CCS_REFUSED_OBJECT);
+    refused("threads", 6, 17, end, CCS_REFUSED_THREADS);
+    refused("bound", 7, 0, end, CCS_REFUSED_BOUND);
+    refused("capacity", 8, 1, end, CCS_REFUSED_CAPACITY);
+    refused("count", 9, 17, end, CCS_REFUSED_COUNT);
+    refused("request", 10, 0, end, CCS_REFUSED_REQUEST);
+    refused("schedule length", 22, 128, end, CCS_REFUSED_SCHEDULE_LENGTH);
+    refused("entry", 30, 2, end, CCS_REFUSED_ENTRY);
+    refused("trailing", 0, 'C', end + 1, CCS_REFUSED_TRAILING);
+}
+
+static void accepted(void)
+{
+    size_t numbers[CCS_JUDGED_NUMBERS];
+    same("judged", ccs_judge(file, file_length, numbers), CCS_ACCEPTED);
+    same("object", numbers[CCS_JUDGED_OBJECT], 2);
+    same("n", numbers[CCS_JUDGED_N], 2);
+    same("h", numbers[CCS_JUDGED_H], 3);
+    same("capacity", numbers[CCS_JUDGED_CAPACITY], 0);
+    same("requests", numbers[CCS_JUDGED_REQUESTS], 2);
+    same("entries", numbers[CCS_JUDGED_ENTRIES], 42);
+
+    uint8_t out[2 * CCS_RECORD_LENGTH + 1];
+    uint32_t counts[CCS_RUN_COUNTS];
+    memset(out, PATTERN, sizeof out);
+    same("short run", ccs_run(file, file_length, out, 2 * CCS_RECORD_LENGTH - 1, counts), CCS_REFUSED_BUFFER);
+    for (size_t i = 0; i < sizeof out; i++)
+        same("short run", out[i], PATTERN);
+    same("run", ccs_run(file, file_length, out, sizeof out, counts), CCS_ACCEPTED);
+    same("behind the records", out[2 * CCS_RECORD_LENGTH], PATTERN);
+    same("first thread", out[0], 0);
+    same("second thread", out[CCS_RECORD_LENGTH], 1);
+    same("second value", out[CCS_RECORD_LENGTH + 4], 5);
+    same("records", counts[CCS_RUN_RECORDS], 2);
+    same("turns", counts[CCS_RUN_TURNS], 2);
+    same("blanks", counts[CCS_RUN_BLANKS], 0);
+    same("spins", counts[CCS_RUN_SPINS], 0);
+    same("remote", counts[CCS_RUN_REMOTE], (size_t)out[8] + out[CCS_RECORD_LENGTH + 8]);
+    /* thread 0 alone has 21 lines and then blanks; thread 1 alone waits for nobody, and thread 0 with 1 between spins */
+    uint8_t other[sizeof file];
+    memcpy(other, file, sizeof file);
+    memset(other + 23, 0, 42);
+    same("run", ccs_run(other, file_length, out, sizeof out, counts), CCS_ACCEPTED);
+    same("blanks", counts[CCS_RUN_BLANKS], 21);
+    memset(other + 23, 1, 8);
+    same("run", ccs_run(other, file_length, out, sizeof out, counts), CCS_ACCEPTED);
+    same("spins", counts[CCS_RUN_SPINS], 26);
+}
+
+/* The most requests that a file has: their records fit, and would not in a byte less. */
+static void most_records(void)
+{
+    uint8_t most[9 + 16 * 81 + 2] = {'C', 'C', 'S', 1, 0, 0, 16, 1, 64};
+    for (size_t i = 0; i < 16; i++)
+        most[9 + 81 * i] = 16;
+    uint8_t out[CCS_ENOUGH_FOR_RECORDS];
+    uint32_t counts[CCS_RUN_COUNTS];
+    same("most records", ccs_run(most, sizeof most, out, sizeof out, counts), CCS_ACCEPTED);
+    same("most records", ccs_run(most, sizeof most, out, sizeof out - 1, counts), CCS_REFUSED_BUFFER);
+}
+
+static void written(void)
+{
+    const uint8_t counts[2] = {1, 1};
+    const uint8_t requests[10] = {2, 5, 0, 0, 0, 2, 7, 0, 0, 0};
+    uint8_t out[sizeof file + 1];
+    size_t length = 99;
+    memset(out, PATTERN, sizeof out);
+    same("short file", ccs_write(2, 2, 3, 0, counts, 2, requests, 10, file + 23, 42, out, sizeof file - 1, &length), CCS_REFUSED_BUFFER);
+    same("short file", length, 0);
+    same("short file", out[0], PATTERN);
+    same("h", ccs_write(2, 2, 0, 0, counts, 2, requests, 10, file + 23, 42, out, sizeof out, &length), CCS_REFUSED_BOUND);
+    same("counts", ccs_write(2, 2, 3, 0, counts, 1, requests, 10, file + 23, 42, out, sizeof out, &length), CCS_REFUSED_CUT_OFF);
+    same("requests", ccs_write(2, 1, 3, 0, counts, 1, requests, 10, file + 23, 42, out, sizeof out, &length), CCS_REFUSED_TRAILING);
+    same("file", ccs_write(2, 2, 3, 0, counts, 2, requests, 10, file + 23, 42, out, sizeof out, &length), CCS_ACCEPTED);
+    same("file", length, sizeof file);
+    same("file", memcmp(out, file, sizeof file) != 0, 0);
+    same("behind the file", out[sizeof file], PATTERN);
+}
+
+static void listed(void)
+{
+    uint8_t text[CCS_ENOUGH_FOR_LISTING];
+    size_t length = 99;
+    memset(text, PATTERN, sizeof text);
+    same("short text", ccs_list(file, file_length, text, 20, &length), CCS_REFUSED_BUFFER);
+    same("short text", length, 0);
+    same("short text", text[0], PATTERN);
+    same("text", ccs_list(file, file_length, text, sizeof text, &length), CCS_ACCEPTED);
+    same("text", memcmp(text, "CCS 1 counter n=2 h=3 calls=2 turns=2 ", 38) != 0, 0);
+    same("last byte", text[length - 1], '\n');
+    same("behind the text", text[length], PATTERN);
+}
+
+int main(void)
+{
+    lay_file();
+    refused_files();
+    accepted();
+    most_records();
+    written();
+    listed();
+    return differences > 0;
+}
