@@ -3,7 +3,7 @@ use Prim.Native.Nat.{ℕ, _+_, _^_, _<_}
 use native.Mathlib.Nat.{add-zero, mod-eq-of-lt}
 use native.Mathlib.Omega.{arith}
 use mathlib.Core.Path.{_≡_, refl, sym, ap, ap₂, _∙_}
-use mathlib.Core.Bool.{Bool, true, false, cond, _||_}
+use mathlib.Core.Bool.{Bool, true, false, _||_}
 use mathlib.Core.List.{List, [], _∷_}
 use lib.ListN.{length, getD, set}
 use lib.Seq.{set-getD}
@@ -28,8 +28,8 @@ use Rattle.claims.proofs.Counted.{cost-fits, next-fits}
 use Rattle.kept.specs.declared.Kept.{Kept}
 use Rattle.kept.specs.Kept.{callAt, unkept, afterEntry}
 use Rattle.runner.specs.Played.{fieldsIn}
-use Rattle.runner.proofs.Running.{Running, below, few, call-below, running-next, changed, Looping}
-use Rattle.runner.proofs.Tables.{place, served, enteredCalls, servedCalls, orderAfter, givenAfter, turnsAfter}
+use Rattle.runner.proofs.Running.{Running, few, call-below, running-next, changed, Looping}
+use Rattle.runner.proofs.Tables.{place, served, enteredCalls, servedCalls}
 
 -- a line that is noted in no array of a run
 pub record Unnoted (k : ℕ) : Type 0 where
@@ -109,7 +109,9 @@ quiet-entered s t q =
 
 -- what is kept of the call stays where no reference is remote and the call does not return
 kept-same : {k remote : ℕ} (kept : Kept) → Unnoted k → remote ≡ 0 → kept .remote < 2 ^ 32 → afterEntry kept k remote ≡ kept
-kept-same kept u none fits = rw (none, add-zero, mod-eq-of-lt fits) (ap (λ (test : Bool). record { mark = kept .mark; server = kept .server; value = kept .value; remote = kept .remote; returned = test || kept .returned; turn = kept .turn }) (u .no-return))
+kept-same kept u none fits =
+    let same : Bool → Kept = λ test. record { mark = kept .mark; server = kept .server; value = kept .value; remote = kept .remote; returned = test || kept .returned; turn = kept .turn } in
+    rw (none, add-zero, mod-eq-of-lt fits) (ap same (u .no-return))
 
 module _ {bytes : List ℕ} {rows : List Row} {n h capacity i : ℕ} {kind : Kind} {s : State} {kept : List Kept} {order given turns : List ℕ} {counts : Counts}
     (x : Looping bytes rows n h kind capacity i s kept order given turns) (inside : i < length bytes) (q : Quiet s (record { 0 = getD bytes i 0 }) counts) where

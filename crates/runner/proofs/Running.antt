@@ -183,10 +183,10 @@ module _ (f : Fields) (bytes : List ℕ) (fits : InRange f) where
         pub is-served : {their : ℕ} → their ≡ cond (eqb k 16) (getD given (m .0) 0) call → their ≡ served s t given
         is-served z = rw (called .line-run, is-node, is-call) at z
 
-      turn : {call their : ℕ} {order′ given′ turns′ : List ℕ} {counts : Counts} {d mine theirs : Kept} → counts ≡ wrapped (plus (s .counts) more)
+      running-booked : {call their : ℕ} {order′ given′ turns′ : List ℕ} {counts : Counts} {d mine theirs : Kept} → counts ≡ wrapped (plus (s .counts) more)
           → Booked d k m (ob .answer) e remote call their order′ given′ turns′ mine theirs
           → Running f bytes (i + 1) (made s t m (ob .object) e copies counts) (set (set kept call mine) their theirs) order′ given′ turns′
-      turn {d = d} {mine = mine} {theirs = theirs} sum b =
+      running-booked {d = d} {mine = mine} {theirs = theirs} sum b =
           let after = entered-by s t shape range below called is-effect (sum ∙ fits-wrapped _ fits-counts) in
           let at = is-call (b .of-call) in
           let to = is-served (b .of-call) (b .of-served) in
@@ -273,7 +273,7 @@ module _ {bytes : List ℕ} {rows : List Row} {n h capacity i : ℕ} {kind : Kin
       → Booked (fieldsIn bytes) bytes (x .fits) (x .running) inside d k m answer e remote call their order′ given′ turns′ mine theirs
       → Looping bytes rows n h kind capacity (i + 1) (made J (record { 0 = getD bytes i 0 }) m (J .object) e copies counts) (set (set kept call mine) their theirs) order′ given′ turns′
   looping-next inside called serves sum b =
-      let next = turn (fieldsIn bytes) bytes (x .fits) (x .running) inside called sum (rw (serves .answers) at b) in
+      let next = running-booked (fieldsIn bytes) bytes (x .fits) (x .running) inside called sum (rw (serves .answers) at b) in
       rw (serves .state) (record {
         fits = x .fits;
         table = x .table;

@@ -1,4 +1,4 @@
--- `bench::put_records` meets its contract: a loop that lays the records, one a turn. Assumes nothing.
+-- `bench::put_records` meets its contract: a loop that lays the records, one a pass. Assumes nothing.
 use Prim.Native.Nat.{ℕ, _-_, _≤_, _<_}
 use native.Mathlib.Omega.{arith}
 use mathlib.Core.Path.{_≡_, ap, _∙_}
