@@ -31,7 +31,7 @@ const SCHEDULES: [Schedule; 3] = [
     }),
 ];
 
-/// Each call alone, its 21 lines one after the other: every entry is another line than a spin.
+/// Each call alone, its 21 entries one after the other: none is a spin.
 const ONE_BY_ONE: (Schedule, usize) = (
     ("one call by one", |_, i| (i / 21 % 16) as u8),
     16 * 16 * 21,

@@ -5,8 +5,8 @@
 //! called from several threads at once. [`run`] needs 32 KiB of stack, [`list`] 64 KiB.
 //!
 //! What the library promises of its answers is proved, for every file and every schedule; this package, the linker and the
-//! compiler are not part of that proof. The file's layout, the record of a call and the listing are those of document 01;
-//! `include/ccs.h` has the first two.
+//! compiler are not part of that proof. The file's layout and the record of a call stand in `include/ccs.h`; the repository's README
+//! shows a listing.
 mod record;
 mod refusal;
 

@@ -1,4 +1,4 @@
-//! The record of a call, read from the 16 bytes of document 01.
+//! The record of a call, read from its 16 bytes (`include/ccs.h`).
 use crate::{Counts, RECORD_LENGTH};
 
 /// The object's answer to a request.

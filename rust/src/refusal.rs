@@ -1,8 +1,8 @@
-//! The refusals of document 01 that the library's functions give.
+//! The refusals that the library's functions give.
 use std::error::Error;
 use std::fmt;
 
-/// Why a file, its fields or a lent buffer is refused: document 01's table.
+/// Why a file, its fields or a lent buffer is refused: the numbers 1 to 13, as in `include/ccs.h`.
 ///
 /// ```
 /// let refusal = ccs::judge(&[0x43, 0x43, 0x54]).unwrap_err();
@@ -38,7 +38,7 @@ pub enum Refusal {
     Trailing,
     /// 13: the lent buffer is too short.
     Buffer,
-    /// A number that is not in the table. The library gives none; this package does not rely on that.
+    /// A number outside 1 to 13. The library gives none; this package does not rely on that.
     #[non_exhaustive]
     Unlisted(u8),
 }
@@ -76,7 +76,7 @@ const TABLE: [(Refusal, &str); 13] = [
 ];
 
 impl Refusal {
-    /// Document 01's number.
+    /// Its number.
     ///
     /// ```
     /// assert_eq!(ccs::Refusal::Entry.number(), 11);

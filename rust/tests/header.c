@@ -1,5 +1,5 @@
 /* Every name and every refusal of include/ccs.h, by calls of the functions: the numbers that are lent are told whatever they held, and a refusal
- * leaves the buffer. Compiled as C and as C++. Prints what differs; the answer is how many do. */
+ * leaves the buffer. Compiled as C and as C++. Prints what differs; the exit status is 1 if anything does, else 0. */
 #include "ccs.h"
 
 #include <stdio.h>
@@ -105,7 +105,7 @@ static void accepted(void)
     same("blanks", counts[CCS_RUN_BLANKS], 0);
     same("spins", counts[CCS_RUN_SPINS], 0);
     same("remote", counts[CCS_RUN_REMOTE], (size_t)out[8] + out[CCS_RECORD_LENGTH + 8]);
-    /* thread 0 alone has 21 lines and then blanks; thread 1 alone waits for nobody, and thread 0 with 1 between spins */
+    /* thread 0 alone runs its 21 entries and then has blanks; after 8 entries of thread 1, thread 0 runs 8 lines and spins for the other 26 entries */
     uint8_t other[sizeof file];
     memcpy(other, file, sizeof file);
     memset(other + 23, 0, 42);

@@ -8,7 +8,7 @@ use ccs::{Counts, RECORD_LENGTH};
 use claims::{check_start, check_step, After};
 use inputs::{run_by_library, run_plainly, Given, Random};
 
-/// All schedules have so many entries or fewer, for two threads and for three.
+/// All schedules of so many entries or fewer are run, for two threads and for three.
 const TWO_THREADS: usize = 18;
 const THREE_THREADS: usize = 11;
 

@@ -57,7 +57,7 @@ referred n t copies (access ∷ accesses) =
     let rest = referred n t (copiesAfter n t access copies) accesses in
     record { remote = remoteOf copies t access + rest .remote; copies = rest .copies }
 
--- whether a line makes no such access
+-- whether a row's access is none
 abbrev pub isNone : SharedAccess → Bool
 isNone NoAccess = true
 isNone (Read field) = false

@@ -105,7 +105,7 @@ fn refer(copies: &mut [u16], access: SharedAccess, node: NodeId, thread: ThreadI
     }
 }
 
-// Whether a line makes no such access.
+// Whether a row's access is none.
 fn is_none(access: SharedAccess) -> bool
     ensures { λ r. ⌜ r ≡ isNone access ⌝ }
 {

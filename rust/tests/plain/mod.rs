@@ -1,5 +1,5 @@
 //! An independent implementation of document 01 and of Algorithm 1 in source 004 (CC-Synch),
-//! written from these papers alone, to compare the library with.
+//! written from these papers, with expected listings to try it on, and without the code that it is compared with.
 
 // Each user of this module needs only a part of it.
 #![allow(dead_code)]
