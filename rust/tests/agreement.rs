@@ -11,6 +11,11 @@ use std::path::{Path, PathBuf};
 const LENT: usize = 70_000;
 const AROUND: usize = 256;
 
+/// The byte that stands at a place before anything is written.
+fn pattern(place: usize) -> u8 {
+    place as u8 ^ 0xA5
+}
+
 /// Two buffers with one pattern, one for each implementation.
 struct Lent {
     library: Vec<u8>,
@@ -38,7 +43,7 @@ impl Lent {
             .zip(&mut self.plain)
             .enumerate()
         {
-            *a = i as u8 ^ 0xA5;
+            *a = pattern(i);
             *b = *a;
         }
         let answer = library(&mut self.library[AROUND..AROUND + lent]);
@@ -144,12 +149,14 @@ fn examples() -> Vec<PathBuf> {
     names
 }
 
+fn example_files() -> Vec<Vec<u8>> {
+    let read = |name: &PathBuf| fs::read(name).expect("an example");
+    examples().iter().map(read).collect()
+}
+
 /// The shorter examples, and some random files.
 fn short_files() -> Vec<Vec<u8>> {
-    let mut files: Vec<Vec<u8>> = examples()
-        .iter()
-        .map(|name| fs::read(name).expect("an example"))
-        .collect();
+    let mut files = example_files();
     files.retain(|file| file.len() <= 100);
     let mut random = Random(0xC0FF_EE00_0001);
     files.extend((0..8).map(|_| Given::random(&mut random, 60).bytes()));
@@ -274,6 +281,36 @@ fn random_fields_written() {
     }
     for number in [1, 4, 5, 6, 7, 8, 9, 10, 11, 12, 13] {
         assert!(refusals[number] > 20, "{refusals:?}");
+    }
+}
+
+/// Read files write back unchanged, into a buffer of their length and into a longer one.
+#[test]
+fn accepted_files_written_back() {
+    let mut random = Random(0x5EED_0005);
+    let mut lent = Lent::new();
+    let mut files = example_files();
+    files.push(longest().bytes());
+    for i in 0..40_000 {
+        let most = if i % 100 == 0 { 3_000 } else { 60 };
+        let file = Given::random(&mut random, most).bytes();
+        let file = match i % 2 {
+            0 => file,
+            _ => damaged(&mut random, file),
+        };
+        files.push(file);
+    }
+    files.retain(|file| ccs::judge(file).is_ok());
+    // the undamaged half, and some of the other
+    assert!(files.len() > 21_000, "{} accepted", files.len());
+    for file in files {
+        let given = Given::of(&file);
+        for room in [file.len(), file.len() + 1 + random.below(300)] {
+            assert_eq!(lent.writes(&given, room), Ok(file.len()));
+            let mut expected: Vec<u8> = (0..room + 2 * AROUND).map(pattern).collect();
+            expected[AROUND..AROUND + file.len()].copy_from_slice(&file);
+            assert!(lent.library[..expected.len()] == expected);
+        }
     }
 }
 

@@ -9,10 +9,10 @@ use Rattle.bench_file.specs.declared.Head.{Head}
 use Rattle.bench_file.specs.declared.Judged.{Judged}
 use Rattle.bench_file.specs.declared.Judged.the-variants as Judged
 use Rattle.bench_file.specs.Reading.{Outcome, refused, read, Reader, after, _>>=_, _>>_, done, several, end}
-use Rattle.bench_file.specs.Layout.{Fields, headReader, rowReader, scheduleReader, fileReader, Judgement, accepted, refusedBy, judged, judgeOf}
-use Rattle.object.specs.Each.{Each}
+use Rattle.bench_file.specs.Layout.{Fields, headLength, headReader, rowReader, scheduleReader, fileReader, Judgement, accepted, refusedBy, judged, judgeOf}
+use Rattle.object.specs.Each.{Each, sumOf}
 use Rattle.bench_file.specs.Bytes.{Byte}
-use Rattle.bench_file.specs.Cursor.{tallied, sumOver, scheduleAs, rowsAs}
+use Rattle.bench_file.specs.Cursor.{tallied, scheduleAs, rowsAs}
 use Rattle.bench_file.specs.Promise.{judgedAs, judgedRefusal, Judges}
 use Rattle.bench_file.proofs.Numbered.{refused-tabled}
 use Rattle.bench_file.proofs.RoundTrip.{accepted-exactly}
@@ -25,21 +25,21 @@ abbrev behindRows : Head → List (List Request) → Reader Fields
 behindRows head rows = scheduleReader (head .n) >>= behindSchedule head rows
 
 from-schedule : (head : Head) (rows : List (List Request)) (o : Outcome (List ℕ))
-    → judgedAs (judged (after o (behindSchedule head rows))) ≡ scheduleAs head (sumOver length rows) (tallied length o)
+    → judgedAs (judged (after o (behindSchedule head rows))) ≡ scheduleAs head (sumOf length rows) (tallied length o)
 unfolding end
 from-schedule head rows (refused refusal) = refl
 from-schedule head rows (read schedule []) = refl
 from-schedule head rows (read schedule (b ∷ rest)) = refl
 
 from-rows : (head : Head) (o : Outcome (List (List Request)))
-    → judgedAs (judged (after o (behindRows head))) ≡ rowsAs head (tallied (sumOver length) o)
+    → judgedAs (judged (after o (behindRows head))) ≡ rowsAs head (tallied (sumOf length) o)
 from-rows head (refused refusal) = refl
 from-rows head (read rows rest) = from-schedule head rows (scheduleReader (head .n) rest)
 
-pub judged-head : (s : List ℕ) (head : Head) → headReader s ≡ read head (drop 9 s)
-    → judgedAs (judgeOf s) ≡ rowsAs head (tallied (sumOver length) (several (head .n) (rowReader (head .object)) (drop 9 s)))
+pub judged-head : (s : List ℕ) (head : Head) → headReader s ≡ read head (drop headLength s)
+    → judgedAs (judgeOf s) ≡ rowsAs head (tallied (sumOf length) (several (head .n) (rowReader (head .object)) (drop headLength s)))
 unfolding judgeOf fileReader
-judged-head s head e = rw e (from-rows head (several (head .n) (rowReader (head .object)) (drop 9 s)))
+judged-head s head e = rw e (from-rows head (several (head .n) (rowReader (head .object)) (drop headLength s)))
 
 pub judged-refused : (s : List ℕ) (refusal : ℕ) → headReader s ≡ refused refusal → judgedAs (judgeOf s) ≡ Judged.Refused refusal
 unfolding judgeOf fileReader

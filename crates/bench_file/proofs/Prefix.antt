@@ -15,7 +15,7 @@ use Rattle.object.specs.Paper.{valueAllowed}
 use Rattle.object.specs.Each.{Each}
 use Rattle.object.proofs.Each.{each-append}
 use Rattle.bench_file.specs.Reading.{Outcome, refused, read, Reader, after, done, rule, field, number, byte, ruledByte, several, end}
-use Rattle.bench_file.specs.Layout.{Fields, isMark, startReader, limitsReader, headReader, requestReader, rowReader, scheduleReader, fileReader, accepted, judged, judgeOf}
+use Rattle.bench_file.specs.Layout.{Fields, headLength, isMark, startReader, limitsReader, headReader, requestReader, rowReader, scheduleReader, fileReader, accepted, judged, judgeOf}
 use Rattle.bench_file.specs.Bytes.{Byte}
 use Rattle.bench_file.proofs.Reading.{field-whole, field-cut}
 use Rattle.bench_file.proofs.Codec.{within-range}
@@ -128,7 +128,7 @@ unfolding limitsReader
 limits-sees object =
     chain (ruled-sees 5 _) (λ n e. chain (ruled-sees 6 _) (λ h p. chain (ruled-sees 7 _) (λ capacity p. done-sees _ (within-range 1 n 16 .0 e .1))))
 
-head-sees : Sees (λ head. head .n ≤ 16) 9 headReader
+head-sees : Sees (λ head. head .n ≤ 16) headLength headReader
 unfolding headReader
 head-sees = chain start-sees (λ u p. chain (ruled-sees 4 _) (λ object p. limits-sees _))
 

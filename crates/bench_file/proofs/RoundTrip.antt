@@ -101,6 +101,10 @@ request-known object r h =
     let (code, value) = request-range object r .1 h in
     within-range (leastCode object) (requestCode r) (mostCode object) .1 (code .1)
 
+-- and its value fits 32 bits
+pub request-fits : (object : Kind) (r : Request) → RequestInRange object r → requestValue r < 2 ^ 32
+request-fits object r h = request-range object r .1 h .1
+
 pub request-codec : (object : Kind) → Codec (requestReader object) requestBytes (RequestInRange object)
 unfolding requestReader
 request-codec object =

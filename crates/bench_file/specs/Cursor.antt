@@ -13,7 +13,7 @@ use Rattle.bench_file.specs.declared.Reached.{Reached}
 use Rattle.bench_file.specs.declared.Reached.the-variants as Reached
 use Rattle.bench_file.specs.declared.Judged.{Judged}
 use Rattle.bench_file.specs.declared.Judged.the-variants as Judged
-use Rattle.bench_file.specs.Layout.{Fields, scheduleReader}
+use Rattle.bench_file.specs.Layout.{headLength, scheduleReader}
 use Rattle.bench_file.specs.Reading.{Outcome, refused, read}
 
 -- a refusal's number, or 0 and the place where reading goes on
@@ -36,12 +36,12 @@ byteRead bytes at (ByteRead.Refused refusal) = refused refusal
 
 -- bytes 0 to 8, or their refusal
 abbrev pub headRead : List ℕ → HeadRead → Outcome Head
-headRead bytes (HeadRead.Whole head) = read head (drop 9 bytes)
+headRead bytes (HeadRead.Whole head) = read head (drop headLength bytes)
 headRead bytes (HeadRead.Refused refusal) = refused refusal
 
 -- a head that was read lies within the bytes
 abbrev pub HeadInside : List ℕ → HeadRead → Type 0
-HeadInside bytes (HeadRead.Whole head) = 9 ≤ length bytes
+HeadInside bytes (HeadRead.Whole head) = headLength ≤ length bytes
 HeadInside bytes (HeadRead.Refused refusal) = Unit
 
 -- how many requests or entries were read, and the place behind them
@@ -59,18 +59,9 @@ abbrev pub tallied : {A : Type 0} → (A → ℕ) → Outcome A → Outcome ℕ
 tallied tally (refused refusal) = refused refusal
 tallied tally (read a rest) = read (tally a) rest
 
--- the sum of what each counts
-unfoldable pub sumOver : {A : Type 0} → (A → ℕ) → List A → ℕ
-sumOver tally [] = 0
-sumOver tally (a ∷ l) = tally a + sumOver tally l
-
--- how many requests are in a file, performed or not
-abbrev pub requestsOf : Fields → ℕ
-requestsOf f = sumOver length (f .rows)
-
 -- each counts 1
-abbrev pub one : {A : Type 0} → A → ℕ
-one a = 1
+abbrev pub single : {A : Type 0} → A → ℕ
+single a = 1
 
 -- the end of the bytes, or 12
 abbrev pub endAs : Head → ℕ → ℕ → List ℕ → Judged

@@ -2,10 +2,11 @@
 use Prim.Native.Nat.{ℕ}
 use mathlib.Core.Bool.{Bool, _&&_}
 use mathlib.Core.List.{List}
-use lib.ListN.{getD}
+use lib.ListN.{length, getD}
 use lib.Dec.{leb, ltb, eqb}
 use Rattle.object.specs.declared.Kind.{Kind}
 use Rattle.object.specs.declared.Request.{Request}
+use Rattle.object.specs.Each.{sumOf}
 use Rattle.object.specs.Paper.{kindOf, requestOf, leastCode, mostCode, valueAllowed, leastCapacity, mostCapacity}
 use Rattle.bench_file.specs.declared.Head.{Head}
 use Rattle.bench_file.specs.Reading.{Outcome, refused, read, Reader, _>>=_, _>>_, done, rule, field, number, ruledByte, ranged, several, end}
@@ -15,6 +16,14 @@ pub record Fields : Type 0 where
   pub head : Head
   pub rows : List (List Request)
   pub schedule : List ℕ
+
+-- how many requests are in a file, performed or not
+abbrev pub requestsOf : Fields → ℕ
+requestsOf f = sumOf length (f .rows)
+
+-- the head is so many bytes: the rows of requests begin behind them
+abbrev pub headLength : ℕ
+headLength = 9
 
 -- the mark, `43 43 53`, is one field
 abbrev pub isMark : List ℕ → Bool

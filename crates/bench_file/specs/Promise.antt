@@ -6,9 +6,8 @@ use mathlib.Core.List.{List}
 use lib.ListN.{length}
 use Rattle.bench_file.specs.declared.Judged.{Judged}
 use Rattle.bench_file.specs.declared.Judged.the-variants as Judged
-use Rattle.bench_file.specs.Layout.{Fields, Judgement, accepted, refusedBy, judgeOf}
+use Rattle.bench_file.specs.Layout.{Fields, requestsOf, Judgement, accepted, refusedBy, judgeOf}
 use Rattle.bench_file.specs.Bytes.{InRange, bytesOf}
-use Rattle.bench_file.specs.Cursor.{requestsOf}
 
 -- the answer for a judgement: head, requests in all and entries of the fields, or the refusal
 abbrev pub judgedAs : Judgement → Judged

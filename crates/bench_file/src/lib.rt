@@ -3,10 +3,14 @@ use object::Kind;
 ghost use mathlib.Core.Path.{_≡_};
 ghost use Prim.Native.Nat.{_+_, _≤_, _<_};
 ghost use lib.ListN.{length, take, drop};
+ghost use Rattle.object.specs.Each.{sumOf};
 ghost use Rattle.bench_file.specs.Reading.{littleEndian, ranged, several};
-ghost use Rattle.bench_file.specs.Layout.{isMark, startReader, limitsReader, headReader, requestReader, rowReader, entryReader, scheduleReader};
+ghost use Rattle.bench_file.specs.Layout.{headLength, isMark, startReader, limitsReader, headReader, requestReader, rowReader, entryReader, scheduleReader};
 ghost use Rattle.bench_file.specs.Promise.{Judges};
-ghost use Rattle.bench_file.specs.Cursor.{numberRead, byteRead, headRead, HeadInside, reached, Ahead, tallied, sumOver, one, scheduleAs, rowsAs};
+ghost use Rattle.bench_file.specs.Cursor.{numberRead, byteRead, headRead, HeadInside, reached, Ahead, tallied, single, scheduleAs, rowsAs};
+
+// The bytes of a file's head: mark, version, object, n, h and capacity. The rows of requests begin behind them.
+pub const HEAD_BYTES: usize = 9;
 
 // Bytes 5 to 8 of a bench file.
 pub struct Head {
@@ -161,7 +165,7 @@ fn read_head(s: &[u8]) -> HeadRead
 
 // A request: code and value.
 fn read_request(s: &[u8], at: usize, object: Kind) -> Reached
-    ensures { λ r. ⌜ reached (now (s .entry)) r ≡ tallied one (requestReader object (drop at (now (s .entry)))) ⌝ }
+    ensures { λ r. ⌜ reached (now (s .entry)) r ≡ tallied single (requestReader object (drop at (now (s .entry)))) ⌝ }
     ensures { λ r. ⌜ Ahead (now (s .entry)) at r ⌝ }
 {
     let least = object::least_code(object);
@@ -188,7 +192,7 @@ fn read_request(s: &[u8], at: usize, object: Kind) -> Reached
 // So many requests.
 fn read_requests(s: &[u8], at: usize, object: Kind, count: usize) -> Reached
     requires { ⌜ at ≤ length (now s) ⌝ }
-    ensures { λ r. ⌜ reached (now (s .entry)) r ≡ tallied (sumOver one) (several count (requestReader object) (drop at (now (s .entry)))) ⌝ }
+    ensures { λ r. ⌜ reached (now (s .entry)) r ≡ tallied (sumOf single) (several count (requestReader object) (drop at (now (s .entry)))) ⌝ }
     ensures { λ r. ⌜ Ahead (now (s .entry)) at r ⌝ }
 {
     let mut next = at;
@@ -214,7 +218,7 @@ fn read_requests(s: &[u8], at: usize, object: Kind, count: usize) -> Reached
 
 // A row of so many requests, from its first byte on.
 pub fn read_request_row(row: &[u8], object: Kind, count: usize) -> Reached
-    ensures { λ r. ⌜ reached (now (row .entry)) r ≡ tallied (sumOver one) (several count (requestReader object) (now (row .entry))) ⌝ }
+    ensures { λ r. ⌜ reached (now (row .entry)) r ≡ tallied (sumOf single) (several count (requestReader object) (now (row .entry))) ⌝ }
     ensures { λ r. ⌜ Ahead (now (row .entry)) 0 r ⌝ }
 {
     read_requests(row, 0, object, count)
@@ -234,7 +238,7 @@ fn read_row(s: &[u8], at: usize, object: Kind) -> Reached
 // The rows of n threads.
 fn read_rows(s: &[u8], at: usize, object: Kind, n: u8) -> Reached
     requires { ⌜ at ≤ length (now s) ⌝ }
-    ensures { λ r. ⌜ reached (now (s .entry)) r ≡ tallied (sumOver length) (several n (rowReader object) (drop at (now (s .entry)))) ⌝ }
+    ensures { λ r. ⌜ reached (now (s .entry)) r ≡ tallied (sumOf length) (several n (rowReader object) (drop at (now (s .entry)))) ⌝ }
     ensures { λ r. ⌜ Ahead (now (s .entry)) at r ⌝ }
 {
     let mut next = at;
@@ -260,7 +264,7 @@ fn read_rows(s: &[u8], at: usize, object: Kind, n: u8) -> Reached
 
 // An entry of the schedule.
 fn read_entry(s: &[u8], at: usize, n: u8) -> Reached
-    ensures { λ r. ⌜ reached (now (s .entry)) r ≡ tallied one (entryReader n (drop at (now (s .entry)))) ⌝ }
+    ensures { λ r. ⌜ reached (now (s .entry)) r ≡ tallied single (entryReader n (drop at (now (s .entry)))) ⌝ }
     ensures { λ r. ⌜ Ahead (now (s .entry)) at r ⌝ }
 {
     if s.len() <= at {
@@ -278,7 +282,7 @@ fn read_entry(s: &[u8], at: usize, n: u8) -> Reached
 // So many entries.
 fn read_entries(s: &[u8], at: usize, n: u8, count: usize) -> Reached
     requires { ⌜ at ≤ length (now s) ⌝ }
-    ensures { λ r. ⌜ reached (now (s .entry)) r ≡ tallied (sumOver one) (several count (entryReader n) (drop at (now (s .entry)))) ⌝ }
+    ensures { λ r. ⌜ reached (now (s .entry)) r ≡ tallied (sumOf single) (several count (entryReader n) (drop at (now (s .entry)))) ⌝ }
     ensures { λ r. ⌜ Ahead (now (s .entry)) at r ⌝ }
 {
     let mut next = at;
@@ -340,11 +344,11 @@ fn judge_schedule(s: &[u8], at: usize, head: Head, requests: usize) -> Judged
 
 // From the rows on.
 fn judge_rows(s: &[u8], head: Head) -> Judged
-    requires { ⌜ 9 ≤ length (now s) ⌝ }
-    ensures { λ r. ⌜ r ≡ rowsAs head (tallied (sumOver length) (several (head .n) (rowReader (head .object)) (drop 9 (now (s .entry))))) ⌝ }
+    requires { ⌜ headLength ≤ length (now s) ⌝ }
+    ensures { λ r. ⌜ r ≡ rowsAs head (tallied (sumOf length) (several (head .n) (rowReader (head .object)) (drop headLength (now (s .entry))))) ⌝ }
 {
     let object = head.object;
-    match read_rows(s, 9, object, head.n) {
+    match read_rows(s, HEAD_BYTES, object, head.n) {
         Reached::At { next, count } => judge_schedule(s, next, head, count),
         Reached::Refused(refusal) => Judged::Refused(refusal),
     }

@@ -5,8 +5,8 @@ use mathlib.Core.Path.{_≡_, refl, sym, ap, _∙_}
 use mathlib.Core.List.{List, [], _∷_, _++_}
 use lib.ListN.{length, getD, take, drop, length-append, length-drop, drop-of-length-le}
 use lib.Seq.{length-take-le, drop-drop}
-use Rattle.bench_file.specs.Cursor.{sumOver}
 use Rattle.bench_writer.specs.Writer.{Given, total, interleaved, rawBytes, pasted}
+use Rattle.object.specs.Each.{sumOf}
 use Rattle.bench_file.proofs.Each.{low-length}
 use Rattle.bench_file.proofs.Reading.{cons-at}
 use Rattle.bench_writer.proofs.Rows.{total-more}
@@ -14,7 +14,7 @@ use Rattle.bench_writer.proofs.Pasted.{pasted-nothing, pasted-twice, le
 
 -- the rows take a byte a thread and five a request
 pub interleaved-length : (counts requests : List ℕ) → 5 * total counts ≤ length requests → length (interleaved counts requests) ≡ length counts + 5 * total counts
-unfolding interleaved sumOver
+unfolding interleaved sumOf
 interleaved-length [] requests h = refl
 interleaved-length (count ∷ counts) requests h =
     let e = interleaved-length counts (drop (5 * count) requests) (rw length-drop (omega arith)) in

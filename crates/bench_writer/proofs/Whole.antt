@@ -1,28 +1,28 @@
--- The writer takes all fields in range: given them, it writes their bytes, and nothing else where it has room. Assumes nothing.
-use Prim.Native.Nat.{ℕ, _+_, _*_}
+-- The writer takes all fields in range: given them, it writes their bytes, and nothing else where it has room; given those of an accepted file, that file.
+-- Assumes nothing.
+use Prim.Native.Nat.{ℕ, _+_, _*_, _≤_}
 use native.Mathlib.Omega.{arith}
 use mathlib.Core.Path.{_≡_, refl, sym, ap, _∙_}
-use mathlib.Core.Bool.{Bool, true}
+use mathlib.Core.Bool.{true}
 use mathlib.Core.List.{List, [], _∷_, _++_, map, append-nil}
 use lib.ListN.{length, length-append, length-map}
 use lib.Seq.{take-append-seam, drop-append-seam}
-use lib.Dec.{leb}
+use lib.Dec.{leb, ltb}
 use borrow.Author.Tests.{le-leb, lt-ltb}
 use Rattle.object.specs.declared.Kind.{Kind}
 use Rattle.object.specs.declared.Request.{Request}
 use Rattle.object.specs.Paper.{kindNumber}
 use Rattle.object.proofs.Inverse.{number-of-kind, kind-range}
 use Rattle.bench_file.specs.Reading.{read, several}
-use Rattle.bench_file.specs.Layout.{Fields, accepted, requestReader}
-use Rattle.object.specs.Each.{Each}
-use Rattle.bench_file.specs.Bytes.{requestBytes, eachBytes, bytesOf, RequestInRange, RowInRange, InRange}
-use Rattle.bench_file.specs.Cursor.{sumOver}
-use Rattle.object.proofs.Each.{each-append, each-map}
+use Rattle.bench_file.specs.Layout.{Fields, accepted, judgeOf, requestReader}
+use Rattle.object.specs.Each.{Each, every, sumOf}
+use Rattle.bench_file.specs.Bytes.{requestBytes, eachBytes, bytesOf, Byte, RequestInRange, RowInRange, InRange}
+use Rattle.object.proofs.Each.{each-append, each-map, each-every}
 use Rattle.bench_file.proofs.Each.{eachBytes-append, eachBytes-length}
 use Rattle.bench_file.proofs.Size.{request-length}
 use Rattle.bench_file.proofs.Codec.{within-range, several-codec}
-use Rattle.bench_file.proofs.RoundTrip.{capacity-range, request-codec}
-use Rattle.bench_writer.specs.Writer.{givenFrom, total, every, dealt, numberRules, countRules, sizeRules, entryRules, requestsReader, givenReader, givenOf, fitted, writeOf}
+use Rattle.bench_file.proofs.RoundTrip.{capacity-range, request-codec, accepted-in-range, writes-back}
+use Rattle.bench_writer.specs.Writer.{givenFrom, total, dealt, numberRules, countRules, sizeRules, entryRules, requestsReader, givenReader, givenOf, fitted, writeOf}
 use Rattle.bench_writer.proofs.Rules.{rules-pass}
 
 -- the requests of all threads, one row after the other
@@ -36,7 +36,7 @@ flat-bytes [] = refl
 flat-bytes (row ∷ rows) = eachBytes-append requestBytes row (flat rows) ∙ ap (λ (l : List ℕ). eachBytes requestBytes row ++ l) (flat-bytes rows)
 
 flat-length : (rows : List (List Request)) → length (flat rows) ≡ total (map length rows)
-unfolding flat sumOver
+unfolding flat sumOf
 flat-length [] = refl
 flat-length (row ∷ rows) = length-append row (flat rows) ∙ ap (λ (n : ℕ). length row + n) (flat-length rows)
 
@@ -50,14 +50,9 @@ unfolding flat dealt
 flat-dealt [] = refl
 flat-dealt (row ∷ rows) = rw (take-append-seam, drop-append-seam, flat-dealt rows)
 
-each-every : (test : ℕ → Bool) (l : List ℕ) → Each (λ a. test a ≡ true) l → every test l ≡ true
-unfolding every
-each-every test [] p = refl
-each-every test (a ∷ l) p = rw (p .0, each-every test l (p .1))
-
-counts-range : (object : Kind) (rows : List (List Request)) → Each (RowInRange object) rows → Each (λ count. leb count 16 ≡ true) (map length rows)
-counts-range object [] p = tt
-counts-range object (row ∷ rows) p = (le-leb _ _ (p .0 .count), counts-range object rows (p .1))
+counts-pass : (object : Kind) (rows : List (List Request)) → Each (RowInRange object) rows → every (λ count. leb count 16) (map length rows) ≡ true
+counts-pass object [] p = refl
+counts-pass object (row ∷ rows) p = rw (le-leb (length row) 16 (p .0 .count)) (counts-pass object rows (p .1))
 
 module _ (f : Fields) (g : InRange f) where
   row-length : length (givenFrom f .requests) ≡ 5 * total (map length (f .rows))
@@ -85,7 +80,7 @@ module _ (f : Fields) (g : InRange f) where
   counts : Each (λ r. r .1 ≡ true) (countRules (f .head .n) (map length (f .rows)))
   counts =
       let e : length (map length (f .rows)) ≡ f .head .n = length-map (f .rows) length ∙ g .threads in
-      (le-leb (f .head .n) (length (map length (f .rows))) (omega arith), (le-leb (length (map length (f .rows))) (f .head .n) (omega arith), (each-every _ _ (counts-range (f .head .object) (f .rows) (g .rows)), tt)))
+      (le-leb (f .head .n) (length (map length (f .rows))) (omega arith), (le-leb (length (map length (f .rows))) (f .head .n) (omega arith), (counts-pass (f .head .object) (f .rows) (g .rows), tt)))
 
   sizes : Each (λ r. r .1 ≡ true) (sizeRules (total (map length (f .rows))) (length (givenFrom f .requests)))
   sizes =
@@ -94,7 +89,7 @@ module _ (f : Fields) (g : InRange f) where
       (le-leb asked size (omega (arith, row-length)), (le-leb size asked (omega (arith, row-length)), tt))
 
   entries : Each (λ r. r .1 ≡ true) (entryRules (f .head .n) (f .schedule))
-  entries = (le-leb _ _ (g .entries), (each-every _ _ (each-map (λ thread h. lt-ltb _ _ h) (f .schedule) (g .schedule)), tt))
+  entries = (le-leb _ _ (g .entries), (each-every (λ thread. ltb thread (f .head .n)) (f .schedule) (each-map (λ thread h. lt-ltb _ _ h) (f .schedule) (g .schedule)), tt))
 
   -- fields in range are taken as they were given
   pub given-whole : givenOf (givenFrom f) ≡ accepted f
@@ -108,3 +103,9 @@ module _ (f : Fields) (g : InRange f) where
   pub written-whole : (room : ℕ) → writeOf (givenFrom f) room ≡ fitted room (bytesOf f)
   unfolding writeOf
   written-whole room = rw given-whole
+
+-- the fields of an accepted file are written as that file
+pub written-back : (bytes : List ℕ) (f : Fields) (room : ℕ) → Each Byte bytes → judgeOf bytes ≡ accepted f → length bytes ≤ room
+    → writeOf (givenFrom f) room ≡ record { refusal = 0; bytes = bytes }
+written-back bytes f room p e h =
+    written-whole f (accepted-in-range bytes f p e) room ∙ rw (writes-back bytes f p e, le-leb (length bytes) room h)

@@ -5,7 +5,6 @@ use native.Mathlib.Nat.{le-antisymm}
 use native.Mathlib.Decide.{decLe}
 use native.Mathlib.Omega.{arith}
 use mathlib.Core.Path.{_≡_, refl, sym, ap, _∙_}
-use mathlib.Core.Bool.{Bool, true, and-eq-true-iff}
 use mathlib.Core.List.{List, [], _∷_, _++_, append-nil}
 use lib.ListN.{length, take, drop, length-append, length-take, length-drop, drop-of-length-le}
 use lib.Seq.{length-take-le, take-at}
@@ -16,17 +15,17 @@ use Rattle.object.specs.Paper.{kindOf}
 use Rattle.object.proofs.Inverse.{kind-of-number}
 use Rattle.bench_file.specs.Reading.{Outcome, refused, read, after, rules, several}
 use Rattle.bench_file.specs.Layout.{Fields, Judgement, accepted, refusedBy, judged, judgeOf, requestReader}
-use Rattle.object.specs.Each.{Each}
+use Rattle.object.specs.Each.{Each, sumOf}
 use Rattle.bench_file.specs.Bytes.{requestBytes, eachBytes, rowBytes, bytesOf, Byte, RequestInRange, RowInRange, CapacityInRange, InRange}
-use Rattle.bench_file.specs.Cursor.{sumOver}
-use Rattle.bench_writer.specs.Writer.{Given, total, every, dealt, interleaved, rawBytes, numberRules, countRules, sizeRules, entryRules, requestsReader, givenReader, givenOf, Writing, fitted, writtenAs, writeOf, WritesAs}
+use Rattle.bench_writer.specs.Writer.{Given, total, dealt, interleaved, rawBytes, numberRules, countRules, sizeRules, entryRules, requestsReader, givenReader, givenOf, Writing, fitted, writtenAs, writeOf, WritesAs}
 use Rattle.bench_writer.specs.declared.Written.{Written}
-use Rattle.object.proofs.Each.{each-take, each-drop, each-map}
+use Rattle.object.proofs.Each.{each-take, each-drop, each-map, every-each}
 use Rattle.bench_file.proofs.Each.{eachBytes-length, eachBytes-take, eachBytes-drop}
 use Rattle.bench_file.proofs.Codec.{came, within-range, several-codec}
 use Rattle.bench_file.proofs.Size.{request-length}
 use Rattle.bench_file.proofs.Numbered.{Numbered, done-numbered, after-numbered, several-numbered, request-numbered}
 use Rattle.bench_writer.proofs.Rules.{rules-kept, rules-numbered}
+use Rattle.bench_writer.proofs.Whole.{written-back}
 use Rattle.bench_file.proofs.RoundTrip.{capacity-range, request-codec, judged-came, reads-back}
 
 -- the requests, dealt to the threads by their counts
@@ -44,7 +43,7 @@ dealt-range object (count ∷ counts) l p q = (
 )
 
 dealt-rows : (counts : List ℕ) (l : List Request) → length l ≡ total counts → eachBytes rowBytes (dealt counts l) ≡ interleaved counts (eachBytes requestBytes l)
-unfolding dealt sumOver eachBytes interleaved
+unfolding dealt sumOf eachBytes interleaved
 dealt-rows [] l e = refl
 dealt-rows (count ∷ counts) l e =
     let h : count ≤ length l = omega arith in
@@ -54,11 +53,6 @@ dealt-rows (count ∷ counts) l e =
       eachBytes-drop requestBytes 5 request-length count l h,
       dealt-rows counts (drop count l) (rw length-drop (omega arith)),
     )
-
-every-each : (test : ℕ → Bool) (l : List ℕ) → every test l ≡ true → Each (λ a. test a ≡ true) l
-unfolding every
-every-each test [] e = tt
-every-each test (a ∷ l) e = let p = and-eq-true-iff (test a) (every test l) .0 e in (p .0, every-each test l (p .1))
 
 all-read : (bs l left : List ℕ) → bs ≡ l ++ left → length bs ≤ length l → bs ≡ l
 all-read bs l left e h =
@@ -116,7 +110,7 @@ taken g f p e =
       whole = all-read bs (eachBytes requestBytes l) left q (rw (eachBytes-length requestBytes 5 request-length l, k .0) (leb-true _ _ s12));
       number = k .0;
       known = k .1;
-      entries = leb-true _ _ (ts .0);
+      entries = omega (arith, leb-true (length (g .schedule)) _ (ts .0));
       schedule = each-map (λ c t. ltb-true _ _ t) (g .schedule) (every-each _ (g .schedule) (ts .1 .0));
       fields = cc;
     }
@@ -140,7 +134,7 @@ module _ (g : Given) (f : Fields) where
   given-in-range p e = taken-range (taken g f p e)
 
 total-bound : (counts : List ℕ) → Each (λ count. count ≤ 16) counts → total counts ≤ 16 * length counts
-unfolding sumOver
+unfolding sumOf
 total-bound [] p = omega arith
 total-bound (count ∷ counts) p = omega (arith, p .0, total-bound counts (p .1))
 
@@ -228,4 +222,7 @@ writes g answer before after {w} p e refusal count buffer = record {
       let (f, given, judged) = written-accepted g (length before) p (ap (λ (w : Writing). w .refusal) e ∙ sym refusal ∙ z) in
       let whole : take (answer .length) after ≡ writeOf g (length before) .bytes = rw (count, buffer, e) (take-at (w .bytes) (drop (length (w .bytes)) before) (length (w .bytes)) refl) in
       (f, given, rw whole judged);
+  unchanged = λ bytes f bs a given room.
+      let back : w ≡ record { refusal = 0; bytes = bytes } = sym e ∙ rw given (written-back bytes f (length before) bs a room) in
+      (rw back at refusal, rw back at count, rw back at buffer);
 }

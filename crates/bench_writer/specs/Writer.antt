@@ -1,7 +1,7 @@
 -- The writer: fields given as numbers and rows, judged in the order of document 01, and what is then written.
-use Prim.Native.Nat.{ℕ, _+_, _*_}
+use Prim.Native.Nat.{ℕ, _+_, _*_, _≤_}
 use mathlib.Core.Path.{_≡_}
-use mathlib.Core.Bool.{Bool, true, cond, _&&_}
+use mathlib.Core.Bool.{Bool, cond}
 use mathlib.Core.List.{List, [], _∷_, _++_, map}
 use lib.ListN.{length, take, drop}
 use lib.Dec.{leb, ltb}
@@ -9,10 +9,10 @@ use Rattle.object.specs.declared.Kind.{Kind}
 use Rattle.object.specs.declared.Request.{Request}
 use Rattle.object.specs.Paper.{within, kindNumber, kindOf, leastCapacity, mostCapacity}
 use Rattle.bench_writer.specs.declared.Written.{Written}
-use Rattle.bench_file.specs.Reading.{read, Reader, after, _>>=_, _>>_, done, rules, several}
+use Rattle.object.specs.Each.{Each, every, sumOf}
+use Rattle.bench_file.specs.Reading.{Reader, after, _>>=_, _>>_, done, rules, several}
 use Rattle.bench_file.specs.Layout.{Fields, Judgement, accepted, refusedBy, judged, judgeOf, requestReader}
-use Rattle.bench_file.specs.Cursor.{sumOver}
-use Rattle.bench_file.specs.Bytes.{lowFirst, requestBytes, eachBytes, bytesOf}
+use Rattle.bench_file.specs.Bytes.{lowFirst, requestBytes, eachBytes, bytesOf, Byte}
 
 -- what the writer is given: four numbers, the row of counts, the row of requests in the file's five-byte form, the schedule
 pub record Given : Type 0 where
@@ -37,12 +37,7 @@ givenBy object n h capacity counts requests schedule = record {
 
 -- how many requests the counts ask for
 abbrev pub total : List ℕ → ℕ
-total counts = sumOver (λ count. count) counts
-
--- a test that each of a row passes
-unfoldable pub every : (ℕ → Bool) → List ℕ → Bool
-every test [] = true
-every test (a ∷ l) = test a && every test l
+total counts = sumOf (λ count. count) counts
 
 -- the requests, dealt to the threads by their counts
 unfoldable pub dealt : List ℕ → List Request → List (List Request)
@@ -144,3 +139,6 @@ pub record WritesAs (g : Given) (answer : Written) (before after : List ℕ) : T
   pub buffer : after ≡ writeOf g (length before) .bytes ++ drop (length (writeOf g (length before) .bytes)) before
   -- what is written is judged accepted, with the fields that were given
   pub meant : answer .refusal ≡ 0 → (f : Fields) × (givenOf g ≡ accepted f) × (judgeOf (take (answer .length) after) ≡ accepted f)
+  -- the fields of an accepted file are written as that file, unchanged, where it has room
+  pub unchanged : (bytes : List ℕ) (f : Fields) → Each Byte bytes → judgeOf bytes ≡ accepted f → g ≡ givenFrom f → length bytes ≤ length before
+      → (answer .refusal ≡ 0) × (answer .length ≡ length bytes) × (after ≡ bytes ++ drop (length bytes) before)

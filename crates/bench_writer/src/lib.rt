@@ -6,10 +6,12 @@ ghost use Prim.Native.Nat.{ℕ, _+_, _*_, _≤_};
 ghost use mathlib.Core.List.{List, _∷_, []};
 ghost use lib.ListN.{length};
 ghost use lib.Dec.{ltb};
+ghost use Rattle.object.specs.Each.{every};
+ghost use Rattle.bench_file.specs.Layout.{headLength};
 ghost use Rattle.bench_file.specs.Bytes.{lowFirst};
 ghost use Rattle.bench_file.specs.Reading.{rules};
 ghost use Rattle.bench_file.specs.Cursor.{numberRead, forgotten, numbered};
-ghost use Rattle.bench_writer.specs.Writer.{total, every, numberRules, countRules, requestsReader, entryRules, interleaved, rawBytes, pasted, givenBy, givenReader, WritesAs};
+ghost use Rattle.bench_writer.specs.Writer.{total, numberRules, countRules, requestsReader, entryRules, interleaved, rawBytes, pasted, givenBy, givenReader, WritesAs};
 
 // The refusal, 0 for none, and how many bytes were written.
 pub struct Written {
@@ -149,7 +151,7 @@ fn put(out: &mut [u8], at: usize, src: &[u8])
 
 // Bytes 0 to 8.
 fn put_head(out: &mut [u8], object: u8, n: u8, h: u8, capacity: u8)
-    requires { ⌜ 9 ≤ length (now out) ⌝ }
+    requires { ⌜ headLength ≤ length (now out) ⌝ }
     ensures { λ _. ⌜ now (out .exit) ≡ pasted (now (out .entry)) 0 (0x43 ∷ 0x43 ∷ 0x53 ∷ 1 ∷ 0 ∷ object ∷ n ∷ h ∷ capacity ∷ []) ⌝ }
 {
     put(out, 0, &[0x43, 0x43, 0x53, 1, 0, object, n, h, capacity]);
@@ -211,7 +213,7 @@ fn put_file(
     ensures { λ _. ⌜ now (out .exit) ≡ pasted (now (out .entry)) 0 (rawBytes (givenBy object n h capacity (now (counts .entry)) (now (requests .entry)) (now (schedule .entry)))) ⌝ }
 {
     put_head(out, object, n, h, capacity);
-    let next = put_rows(out, 9, counts, requests);
+    let next = put_rows(out, bench_file::HEAD_BYTES, counts, requests);
     put_length(out, next, schedule.len());
     put(out, next + 2, schedule);
 }
@@ -233,7 +235,7 @@ pub fn write(
     if refusal != 0 {
         return Written { refusal, length: 0 };
     }
-    let length = 11 + counts.len() + requests.len() + schedule.len();
+    let length = bench_file::HEAD_BYTES + counts.len() + requests.len() + 2 + schedule.len();
     if out.len() < length {
         return Written {
             refusal: 13,

@@ -1,4 +1,6 @@
+pub mod Choice
 pub mod Each
+pub mod Fitting
 pub mod Inverse
 pub mod Plainly
 pub mod Refusal

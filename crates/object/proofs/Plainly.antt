@@ -1,12 +1,12 @@
--- A request applied to a storage of 64 places does what the plain object does, and leaves 64 places. Assumes nothing.
-use Prim.Native.Nat.{ℕ, _-_, _≤_, _<_}
+-- A request applied to a storage of 64 places does what the plain object does, and leaves 64 places, those past the items then held as they were. Assumes nothing.
+use Prim.Native.Nat.{ℕ, _+_, _-_, _≤_, _<_}
 use mathlib.Core.List.{List}
-use mathlib.Core.Path.{_≡_, refl, sym, ap}
+use mathlib.Core.Path.{_≡_, refl, sym, ap, _∙_}
 use mathlib.Core.Bool.{Bool, true, false, cond}
 use native.Mathlib.Numerals.{add-one}
 use native.Mathlib.Omega.{arith}
 use lib.ListN.{length, getD, take, drop, length-set, length-append, length-drop}
-use lib.Seq.{length-take-le, length-slice, take-suc-set, take-at, take-take, getD-take}
+use lib.Seq.{length-take-le, length-slice, take-suc-set, take-at, drop-at, take-take, drop-set-lt, getD-take}
 use lib.Dec.{T, leb, ltb, eqb, leb→le, le→leb}
 use lib.Ieee.Fits.{and-i, and-l, and-r}
 use borrow.Author.Tests.{ltb-true, eqb-false}
@@ -20,18 +20,23 @@ use Rattle.object.specs.declared.Object.{Object}
 use Rattle.object.specs.declared.Applied.{Applied}
 use Rattle.object.specs.Paper.{leastCapacity, mostCapacity, capacityAllowed}
 use Rattle.object.specs.Plain.{Response, respond, holding, plainStep, plainPut, plainTakeFirst, plainTakeLast, plainAdd}
-use Rattle.object.specs.Apply.{holds, knows, objectInRange, heldInRange, answered, refusedWith, stored, movedDown, putOf, takeFirstOf, takeLastOf, addOf, served, applyOf, AppliesPlainly}
+use Rattle.object.specs.Apply.{contents, knows, objectInRange, heldInRange, answered, refusedWith, stored, movedDown, putOf, takeFirstOf, takeLastOf, addOf, appliedKnown, applyOf, AppliesPlainly}
 
--- r is not refused, is what the plain object responds, and leaves a storage within the capacity and of 64 places
-record Meets (capacity : ℕ) (p : Response) (r : Applied) : Type 0 where
+-- past the items that it holds, an object has the places of ob
+abbrev pub PastHeld : Object → Object → Type 0
+PastHeld ob after = drop (after .held) (after .items) ≡ drop (after .held) (ob .items)
+
+-- r is not refused, is what the plain object responds, and leaves a storage within the capacity and of 64 places, past its items those of ob
+record Meets (capacity : ℕ) (ob : Object) (p : Response) (r : Applied) : Type 0 where
   accepted : r .refusal ≡ 0
-  plain : p ≡ record { answer = r .answer; after = holds (r .object) }
+  plain : p ≡ record { answer = r .answer; after = contents (r .object) }
   held : r .object .held ≤ capacity
   places : length (r .object .items) ≡ 64
+  past : PastHeld ob (r .object)
 
 -- a test that both sides make
-either : {capacity : ℕ} {p p′ : Response} {r r′ : Applied} (t : Bool)
-    → (t ≡ true → Meets capacity p r) → (t ≡ false → Meets capacity p′ r′) → Meets capacity (cond t p p′) (cond t r r′)
+either : {capacity : ℕ} {ob : Object} {p p′ : Response} {r r′ : Applied} (t : Bool)
+    → (t ≡ true → Meets capacity ob p r) → (t ≡ false → Meets capacity ob p′ r′) → Meets capacity ob (cond t p p′) (cond t r r′)
 either true f g = f refl
 either false f g = g refl
 
@@ -40,34 +45,35 @@ module _ (capacity : ℕ) (ob : Object) (long : length (ob .items) ≡ 64) (room
   count : length (take (ob .held) (ob .items)) ≡ ob .held
   count = length-take-le (ob .held) (ob .items) (omega arith)
 
-  unchanged : (a : Answer) → Meets capacity (respond a (holds ob)) (answered a ob)
-  unchanged a = record { accepted = refl; plain = refl; held = fits; places = long }
+  unchanged : (a : Answer) → Meets capacity ob (respond a (contents ob)) (answered a ob)
+  unchanged a = record { accepted = refl; plain = refl; held = fits; places = long; past = refl }
 
   changed : (a : Answer) {values items : List ℕ} {held : ℕ}
-      → values ≡ take held items → held ≤ capacity → length items ≡ 64
-      → Meets capacity (respond a (holding (holds ob) values)) (answered a (stored ob items held))
-  changed a e h l = record {
+      → values ≡ take held items → held ≤ capacity → length items ≡ 64 → drop held items ≡ drop held (ob .items)
+      → Meets capacity ob (respond a (holding (contents ob) values)) (answered a (stored ob items held))
+  changed a e h l k = record {
     accepted = refl;
-    plain = ap (λ (vs : List ℕ). respond a (holding (holds ob) vs)) e;
+    plain = ap (λ (vs : List ℕ). respond a (holding (contents ob) vs)) e;
     held = h;
     places = l;
+    past = k;
   }
 
-  put-meets : (v : ℕ) → Meets capacity (plainPut capacity v (holds ob)) (putOf capacity v ob)
+  put-meets : (v : ℕ) → Meets capacity ob (plainPut capacity v (contents ob)) (putOf capacity v ob)
   put-meets v =
       rw count (either (ltb (ob .held) capacity)
       (λ t.
       let h : ob .held < capacity = ltb-true _ _ t in
       changed Done (sym (rw add-one (take-suc-set (ob .items) (ob .held) v (omega arith)))) (omega arith)
-      (simp length-set long))
+      (simp length-set long) (drop-set-lt (ob .held + 1) (ob .items) (ob .held) v (omega arith)))
       (λ t. unchanged Full))
 
   -- the value at place i is given up
   take-meets : (i : ℕ) (values items : List ℕ)
-      → (0 < ob .held → (i < ob .held) × (values ≡ take (ob .held - 1) items) × (length items ≡ 64))
-      → Meets capacity
-      (cond (eqb (ob .held) 0) (respond Empty (holds ob))
-      (respond (Value (getD (take (ob .held) (ob .items)) i 0)) (holding (holds ob) values)))
+      → (0 < ob .held → (i < ob .held) × (values ≡ take (ob .held - 1) items) × (length items ≡ 64) × (drop (ob .held - 1) items ≡ drop (ob .held - 1) (ob .items)))
+      → Meets capacity ob
+      (cond (eqb (ob .held) 0) (respond Empty (contents ob))
+      (respond (Value (getD (take (ob .held) (ob .items)) i 0)) (holding (contents ob) values)))
       (cond (eqb (ob .held) 0) (answered Empty ob)
       (answered (Value (getD (ob .items) i 0)) (stored ob items (ob .held - 1))))
   take-meets i values items f =
@@ -75,25 +81,25 @@ module _ (capacity : ℕ) (ob : Object) (long : length (ob .items) ≡ 64) (room
       (λ t.
       let g = f (omega (arith, eqb-false (ob .held) 0 t)) in
       let below = g .0 in
-      rw getD-take (changed (Value (getD (ob .items) i 0)) (g .1) (omega arith) (g .2)))
+      rw getD-take (changed (Value (getD (ob .items) i 0)) (g .1) (omega arith) (g .2) (g .3)))
 
-  take-first-meets : Meets capacity (plainTakeFirst (holds ob)) (takeFirstOf ob)
+  take-first-meets : Meets capacity ob (plainTakeFirst (contents ob)) (takeFirstOf ob)
   take-first-meets =
       let first = drop 1 (take (ob .held) (ob .items)) in
       let n : length first ≡ ob .held - 1 = length-slice 1 (ob .held) (ob .items) (omega arith) in
       rw count (take-meets 0 first (movedDown (ob .items) (ob .held))
-      (λ h. (h, sym (take-at _ _ _ n), rw (length-append, n, length-drop) (omega arith))))
+      (λ h. (h, sym (take-at _ _ _ n), rw (length-append, n, length-drop) (omega arith), drop-at first _ _ n)))
 
-  take-last-meets : Meets capacity (plainTakeLast (holds ob)) (takeLastOf ob)
+  take-last-meets : Meets capacity ob (plainTakeLast (contents ob)) (takeLastOf ob)
   take-last-meets =
       rw count (take-meets (ob .held - 1) _ (ob .items)
-      (λ h. (omega arith, take-take (ob .held - 1) (ob .held) (ob .items) (omega arith), long)))
+      (λ h. (omega arith, take-take (ob .held - 1) (ob .held) (ob .items) (omega arith), long, refl)))
 
-  add-meets : (v : ℕ) → Meets capacity (plainAdd v (holds ob)) (addOf v ob)
-  add-meets v = record { accepted = refl; plain = refl; held = fits; places = long }
+  add-meets : (v : ℕ) → Meets capacity ob (plainAdd v (contents ob)) (addOf v ob)
+  add-meets v = record { accepted = refl; plain = refl; held = fits; places = long; past = refl }
 
   meets : (kind : Kind) (request : Request) → T (knows kind request)
-      → Meets capacity (plainStep kind capacity request (holds ob)) (served kind capacity request ob)
+      → Meets capacity ob (plainStep kind capacity request (contents ob)) (appliedKnown kind capacity request ob)
   meets Queue (Put v) k = put-meets v
   meets Queue Take k = take-first-meets
   meets Queue (Add v) k = absurd k
@@ -123,14 +129,14 @@ range-bounds kind capacity held h =
 
 module _ (kind : Kind) (capacity : ℕ) (ob : Object) (request : Request) (long : length (ob .items) ≡ 64) where
   abbrev Plainly : Applied → Type 0
-  Plainly r = AppliesPlainly kind capacity ob request r × (length (r .object .items) ≡ 64)
+  Plainly r = AppliesPlainly kind capacity ob request r × (length (r .object .items) ≡ 64) × PastHeld ob (r .object)
 
-  when-served : T (objectInRange kind capacity ob) → T (knows kind request) → Plainly (served kind capacity request ob)
-  when-served h k =
+  when-known : T (objectInRange kind capacity ob) → T (knows kind request) → Plainly (appliedKnown kind capacity request ob)
+  when-known h k =
       let allowed = capacityAllowed kind capacity in
       let b = range-bounds kind capacity (ob .held) h in
       let m = meets capacity ob long (b .0) (b .1) kind request k in
-      let after = served kind capacity request ob .object .held in (
+      let after = appliedKnown kind capacity request ob .object .held in (
         record {
           accepted = λ _ _. m .accepted;
           plain = λ _ _. m .plain;
@@ -140,16 +146,17 @@ module _ (kind : Kind) (capacity : ℕ) (ob : Object) (request : Request) (long 
               (le→leb after capacity (m .held));
         },
         m .places,
+        m .past,
       )
 
   when-refused : (number : ℕ) → (T (objectInRange kind capacity ob) → T (knows kind request) → ⊥)
       → Plainly (refusedWith number ob)
   when-refused number out =
-      (record { accepted = λ h k. absurd (out h k); plain = λ h k. absurd (out h k); stays = λ h. h }, long)
+      (record { accepted = λ h k. absurd (out h k); plain = λ h k. absurd (out h k); stays = λ h. h }, long, refl)
 
   by-tests : (t u : Bool) → objectInRange kind capacity ob ≡ t → knows kind request ≡ u
-      → Plainly (cond t (cond u (served kind capacity request ob) (refusedWith 9 ob)) (refusedWith 14 ob))
-  by-tests true true e f = when-served (rw e tt) (rw f tt)
+      → Plainly (cond t (cond u (appliedKnown kind capacity request ob) (refusedWith 9 ob)) (refusedWith 14 ob))
+  by-tests true true e f = when-known (rw e tt) (rw f tt)
   by-tests true false e f = when-refused 9 (λ h k. rw f at k)
   by-tests false u e f = when-refused 14 (λ h k. rw e at h)
 
@@ -160,3 +167,42 @@ module _ (kind : Kind) (capacity : ℕ) (ob : Object) (request : Request) (long 
   -- and the storage still has its 64 places
   pub places-stay : length (applyOf kind capacity ob request .object .items) ≡ 64
   places-stay = by-tests (objectInRange kind capacity ob) (knows kind request) refl refl .1
+
+  -- those past the items that it then holds are as they were
+  pub past-held : PastHeld ob (applyOf kind capacity ob request .object)
+  past-held = by-tests (objectInRange kind capacity ob) (knows kind request) refl refl .2
+
+-- the storages hold the same: as many items, the same ones, and the same sum
+pub record HoldSame (ob ob′ : Object) : Type 0 where
+  pub held : ob .held ≡ ob′ .held
+  pub plain : contents ob ≡ contents ob′
+
+pub record AnswerSame (r r′ : Applied) : Type 0 where
+  pub answer : r .answer ≡ r′ .answer
+  pub object : HoldSame (r .object) (r′ .object)
+
+module _ (kind : Kind) (capacity : ℕ) where
+  held-many : (ob : Object) → length (ob .items) ≡ 64 → T (objectInRange kind capacity ob) → length (contents ob .values) ≡ ob .held
+  held-many ob long fits =
+      let bounds = range-bounds kind capacity (ob .held) fits in
+      count capacity ob long (bounds .0) (bounds .1)
+
+  -- what a request that is known is answered, and what is then held, hangs on what is held alone
+  pub same-answered : (ob ob′ : Object) (request : Request) → length (ob .items) ≡ 64 → length (ob′ .items) ≡ 64
+      → T (objectInRange kind capacity ob) → T (knows kind request) → HoldSame ob ob′
+      → AnswerSame (applyOf kind capacity ob request) (applyOf kind capacity ob′ request)
+  same-answered ob ob′ request long long′ fits known same =
+      let fits′ : T (objectInRange kind capacity ob′) = rw (← same .held) fits in
+      let r = applies-plainly kind capacity ob request long in
+      let r′ = applies-plainly kind capacity ob′ request long′ in
+      let responds = sym (r .plain fits known) ∙ ap (plainStep kind capacity request) (same .plain) ∙ r′ .plain fits′ known in
+      record {
+        answer = ap (λ (p : Response). p .answer) responds;
+        object = record {
+          held =
+              sym (held-many (applyOf kind capacity ob request .object) (places-stay kind capacity ob request long) (r .stays fits))
+              ∙ ap (λ (p : Response). length (p .after .values)) responds
+              ∙ held-many (applyOf kind capacity ob′ request .object) (places-stay kind capacity ob′ request long′) (r′ .stays fits′);
+          plain = ap (λ (p : Response). p .after) responds;
+        };
+      }

@@ -17,8 +17,8 @@ use Rattle.object.specs.Paper.{requestCode, codeKnown, capacityAllowed}
 use Rattle.object.specs.Plain.{Plain, plainStep}
 
 -- what the storage holds: the first `held` places, and the sum
-abbrev pub holds : Object → Plain
-holds ob = record { values = take (ob .held) (ob .items); sum = ob .sum }
+abbrev pub contents : Object → Plain
+contents ob = record { values = take (ob .held) (ob .items); sum = ob .sum }
 
 -- at first no place is used and the sum is 0
 abbrev pub freshObject : Object
@@ -81,15 +81,15 @@ takeOf Stack ob = takeLastOf ob
 takeOf Counter ob = refusedWith 9 ob
 
 -- what each request does to an object that knows it
-abbrev pub served : Kind → ℕ → Request → Object → Applied
-served kind capacity (Put v) ob = putOf capacity v ob
-served kind capacity Take ob = takeOf kind ob
-served kind capacity (Add v) ob = addOf v ob
+abbrev pub appliedKnown : Kind → ℕ → Request → Object → Applied
+appliedKnown kind capacity (Put v) ob = putOf capacity v ob
+appliedKnown kind capacity Take ob = takeOf kind ob
+appliedKnown kind capacity (Add v) ob = addOf v ob
 
 -- a request that the object doesn't know is 9
 abbrev pub appliedTo : Kind → ℕ → Request → Object → Applied
 appliedTo kind capacity request ob =
-    cond (knows kind request) (served kind capacity request ob) (refusedWith 9 ob)
+    cond (knows kind request) (appliedKnown kind capacity request ob) (refusedWith 9 ob)
 
 -- a capacity or items held outside their range are 14, before the request is looked at
 abbrev pub applyOf : Kind → ℕ → Object → Request → Applied
@@ -100,5 +100,5 @@ applyOf kind capacity ob request =
 pub record AppliesPlainly (kind : Kind) (capacity : ℕ) (ob : Object) (request : Request) (r : Applied) : Type 0 where
   pub accepted : T (objectInRange kind capacity ob) → T (knows kind request) → r .refusal ≡ 0
   pub plain : T (objectInRange kind capacity ob) → T (knows kind request)
-      → plainStep kind capacity request (holds ob) ≡ record { answer = r .answer; after = holds (r .object) }
+      → plainStep kind capacity request (contents ob) ≡ record { answer = r .answer; after = contents (r .object) }
   pub stays : T (objectInRange kind capacity ob) → T (objectInRange kind capacity (r .object))

@@ -3,7 +3,7 @@ ghost use mathlib.Core.Path.{_≡_};
 ghost use Prim.Native.Nat.{_≤_};
 ghost use Rattle.object.specs.Paper.{within, kindNumber, kindOf, requestCode, requestValue, requestOf, answerMark, answerValue, leastCode, mostCode, codeKnown, valueAllowed, leastCapacity, mostCapacity, capacityAllowed};
 ghost use Rattle.object.specs.Plain.{fresh};
-ghost use Rattle.object.specs.Apply.{freshObject, holds, knows, answered, refusedWith, putOf, takeFirstOf, takeLastOf, takeOf, addOf, movedDown, heldInRange, appliedTo, applyOf, AppliesPlainly};
+ghost use Rattle.object.specs.Apply.{freshObject, contents, knows, answered, refusedWith, putOf, takeFirstOf, takeLastOf, takeOf, addOf, movedDown, heldInRange, appliedTo, applyOf, AppliesPlainly};
 
 // What the object byte of a bench file names.
 pub enum Kind {
@@ -190,7 +190,7 @@ pub fn capacity_allowed(kind: Kind, capacity: u8) -> bool
 
 // The object as it is at the start.
 pub fn fresh() -> Object
-    ensures { λ r. ⌜ (r ≡ freshObject) × (holds r ≡ fresh) ⌝ }
+    ensures { λ r. ⌜ (r ≡ freshObject) × (contents r ≡ fresh) ⌝ }
 {
     Object {
         items: [0; 64],

@@ -90,6 +90,30 @@ impl Given {
         }
     }
 
+    /// The fields of an accepted file, taken out of it by document 01's layout.
+    pub fn of(file: &[u8]) -> Given {
+        let [object, n, h, capacity] = file[5..9].try_into().expect("four bytes");
+        let mut rest = &file[9..];
+        let mut counts = Vec::new();
+        let mut requests = Vec::new();
+        for _ in 0..n {
+            let count = rest[0];
+            let (row, behind) = rest[1..].split_at(5 * usize::from(count));
+            counts.push(count);
+            requests.extend(row);
+            rest = behind;
+        }
+        Given {
+            object,
+            n,
+            h,
+            capacity,
+            counts,
+            requests,
+            schedule: rest[2..].to_vec(),
+        }
+    }
+
     pub fn fields(&self) -> ccs::Fields<'_> {
         ccs::Fields {
             object: self.object,

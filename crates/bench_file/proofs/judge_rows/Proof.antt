@@ -2,6 +2,7 @@
 use mathlib.Core.Path.{_∙_}
 use borrow.Author.Needs.{needs}
 use Rattle.bench_file.specs.declared.Reached.the-variants as Reached
+use Rattle.bench_file.specs.Layout.{headLength}
 use Rattle.bench_file.specs.Cursor.{Ahead}
 use Rattle.bench_file.proofs.Reading.{reached-was}
 use Rattle.bench_file.proofs.judge_rows.Statement.{statement}
@@ -16,7 +17,7 @@ enum-known-next c = search needs
 judge-schedule-requires : tie.Need-judge-schedule-requires
 judge-schedule-requires c κs =
     let r = c .before .before .before in
-    let ahead : Ahead (r .before .before .args .s .now) 9 (Reached.At (c .before .next .given .0 .0) (c .before .next .given .0 .1 .0)) =
+    let ahead : Ahead (r .before .before .args .s .now) headLength (Reached.At (c .before .next .given .0 .0) (c .before .next .given .0 .1 .0)) =
     rw (c .before .next .given .1) at (r .read-rows .ensures .1) in
     ahead .1
 

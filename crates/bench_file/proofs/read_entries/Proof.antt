@@ -3,13 +3,13 @@ use Prim.Native.Nat.{_-_}
 use native.Mathlib.Omega.{arith}
 use borrow.Author.Needs.{needs}
 use Rattle.bench_file.specs.Layout.{entryReader}
-use Rattle.bench_file.specs.Cursor.{one}
+use Rattle.bench_file.specs.Cursor.{single}
 use Rattle.bench_file.proofs.Passes.{Passing, begins, passes, refuses, ends}
 use Rattle.bench_file.proofs.read_entries.Statement.{statement}
 use Rattle.bench_file.proofs.read_entries.Tie as tie
 
 abbrev Inv-loop : tie.InvT-loop
-Inv-loop s at n count next₀ done₀ i₀ next done i = Passing (entryReader n) one s at count next done i
+Inv-loop s at n count next₀ done₀ i₀ next done i = Passing (entryReader n) single s at count next done i
 
 abbrev μ-loop : tie.MeasureT-loop
 μ-loop s at n count next₀ done₀ i₀ next done i = count - i

@@ -4,11 +4,12 @@ use mathlib.Core.Path.{_≡_, _∙_}
 use native.Mathlib.Omega.{arith}
 use lib.ListN.{length, drop}
 use borrow.Author.Needs.{needs}
+use Rattle.object.specs.Each.{sumOf}
 use Rattle.bench_file.specs.Reading.{read, ranged, several}
 use Rattle.bench_file.specs.Layout.{requestReader, rowReader}
-use Rattle.bench_file.specs.Cursor.{sumOver, one}
+use Rattle.bench_file.specs.Cursor.{single}
 use Rattle.bench_file.proofs.Reading.{byte-was, inside}
-use Rattle.bench_file.proofs.Passes.{tallied-same, one-length, ahead-from}
+use Rattle.bench_file.proofs.Passes.{tallied-same, single-length, ahead-from}
 use Rattle.bench_file.proofs.read_row.Statement.{statement}
 use Rattle.bench_file.proofs.read_row.Tie as tie
 
@@ -46,7 +47,7 @@ returns c =
     let d = c .before in
     let a = given d .args in
     let rows = several (d .before .count .given .0 .0) (requestReader (a .object)) (drop (a .at + 1) (a .s .now)) in (
-      simp (count-read d) (c .read-requests .ensures .0 ∙ tallied-same (sumOver one) length rows one-length),
+      simp (count-read d) (c .read-requests .ensures .0 ∙ tallied-same (sumOf single) length rows single-length),
       ahead-from (a .s .now) (a .at) (a .at + 1) (c .read-requests .result) (omega arith) (c .read-requests .ensures .1),
     )
 

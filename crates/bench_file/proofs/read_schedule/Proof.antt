@@ -5,11 +5,12 @@ use native.Mathlib.Omega.{arith}
 use lib.ListN.{length, drop}
 use borrow.Author.Needs.{needs}
 use borrow.Author.Tests.{le-leb, lt-leb}
+use Rattle.object.specs.Each.{sumOf}
 use Rattle.bench_file.specs.Reading.{several}
 use Rattle.bench_file.specs.Layout.{entryReader, scheduleReader}
-use Rattle.bench_file.specs.Cursor.{sumOver, one}
+use Rattle.bench_file.specs.Cursor.{single}
 use Rattle.bench_file.proofs.Reading.{field-at, field-cut-at}
-use Rattle.bench_file.proofs.Passes.{tallied-same, one-length, ahead-from}
+use Rattle.bench_file.proofs.Passes.{tallied-same, single-length, ahead-from}
 use Rattle.bench_file.proofs.read_schedule.Statement.{statement}
 use Rattle.bench_file.proofs.read_schedule.Tie as tie
 
@@ -48,7 +49,7 @@ returns-3 c =
     let s = start .args .s .now in
     let entries = several (e .before .number2 .result) (entryReader (start .args .n)) (drop (start .args .at + 2) s) in (
       simp (field-at s (start .args .at) 2 (omega arith), ← e .before .number2 .ensures .0, le-leb _ _ (e .if2 .left))
-          (c .read-entries .ensures .0 ∙ tallied-same (sumOver one) length entries one-length),
+          (c .read-entries .ensures .0 ∙ tallied-same (sumOf single) length entries single-length),
       ahead-from s (start .args .at) (start .args .at + 2) (c .read-entries .result) (omega arith) (c .read-entries .ensures .1),
     )
 

@@ -5,7 +5,7 @@ use lib.ListN.{length, drop}
 use lib.Dec.{ltb}
 use borrow.Author.Needs.{needs}
 use borrow.Author.Tests.{lt-ltb, le-ltb}
-use Rattle.bench_writer.specs.Writer.{every}
+use Rattle.object.specs.Each.{every}
 use Rattle.bench_writer.proofs.Rows.{every-more, every-stop, every-end}
 use Rattle.bench_writer.proofs.every_below.Statement.{statement}
 use Rattle.bench_writer.proofs.every_below.Tie as tie

@@ -4,9 +4,10 @@ use borrow.Author.Needs.{needs}
 use borrow.Author.Tests.{le-leb, lt-leb, ne-eqb}
 use mathlib.Core.List.{List}
 use Rattle.object.specs.declared.Request.{Request}
+use Rattle.object.specs.Each.{sumOf}
 use Rattle.bench_file.specs.Reading.{Outcome, several}
 use Rattle.bench_file.specs.Layout.{requestReader}
-use Rattle.bench_file.specs.Cursor.{forgotten, sumOver, one}
+use Rattle.bench_file.specs.Cursor.{forgotten, single}
 use Rattle.bench_writer.specs.Writer.{requestsReader}
 use Rattle.bench_file.proofs.Reading.{reached-was}
 use Rattle.bench_writer.proofs.Forgotten.{forgotten-tallied}
@@ -50,7 +51,7 @@ returns-3 c =
     let d = c .before .before .before in
     let a = given d .args in
     simp (le-leb _ _ (d .before .if1 .left), le-leb _ _ (d .if2 .left))
-    (sym (sym (forgotten-tallied (sumOver one) (asked d)) ∙ ap forgotten (reached-was (a .requests .now) (c .before .before .read-request-row .ensures .0) (c .enum-told .given .1))))
+    (sym (sym (forgotten-tallied (sumOf single) (asked d)) ∙ ap forgotten (reached-was (a .requests .now) (c .before .before .read-request-row .ensures .0) (c .enum-told .given .1))))
 
 returns-4 : tie.Need-returns-4
 unfolding requestsReader
@@ -58,8 +59,8 @@ returns-4 c =
     let d = c .before .before .before .before in
     let a = given d .args in
     let e = reached-was (a .requests .now) (c .before .before .before .read-request-row .ensures .0) (c .before .refusal .given .1) in
-    simp (le-leb _ _ (d .before .if1 .left), le-leb _ _ (d .if2 .left), ne-eqb _ _ (tallied-numbered (sumOver one) (several-numbered (request-numbered (a .object)) (a .count)) (a .requests .now) e))
-    (sym (sym (forgotten-tallied (sumOver one) (asked d)) ∙ ap forgotten e))
+    simp (le-leb _ _ (d .before .if1 .left), le-leb _ _ (d .if2 .left), ne-eqb _ _ (tallied-numbered (sumOf single) (several-numbered (request-numbered (a .object)) (a .count)) (a .requests .now) e))
+    (sym (sym (forgotten-tallied (sumOf single) (asked d)) ∙ ap forgotten e))
 
 pub judge-requests-spec : {M : Type 1} → statement M
 judge-requests-spec =

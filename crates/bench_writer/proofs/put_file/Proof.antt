@@ -5,6 +5,7 @@ use mathlib.Core.List.{List, [], _∷_, _++_}
 use native.Mathlib.Omega.{arith}
 use lib.ListN.{length, length-append}
 use borrow.Author.Needs.{needs}
+use Rattle.bench_file.specs.Layout.{headLength}
 use Rattle.bench_file.specs.Bytes.{lowFirst}
 use Rattle.bench_writer.specs.Writer.{Given, givenBy, interleaved, rawBytes}
 use Rattle.bench_file.proofs.Each.{low-length}
@@ -71,7 +72,7 @@ returns c =
     let low = lowFirst 2 (length (g .schedule)) in
     pasted-behind out (fileHead g ++ rows ++ low) (g .schedule) (r .put-rows .result + 2)
     (pasted-behind out (fileHead g ++ rows) low (r .put-rows .result)
-    (pasted-behind out (fileHead g) rows 9 (h .put-head .ensures) refl (r .put-rows .ensures .1))
+    (pasted-behind out (fileHead g) rows headLength (h .put-head .ensures) refl (r .put-rows .ensures .1))
     (r .put-rows .ensures .0 ∙ sym (length-append (fileHead g) rows)) (l .put-length .ensures))
     (rw (length-append, length-append, low-length) (omega (arith, r .put-rows .ensures .0))) (p .put .ensures)
 

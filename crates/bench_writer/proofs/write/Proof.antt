@@ -62,6 +62,10 @@ add-length-3 : tie.Need-add-length-3
 add-length-3 c =
     let t = taken c .1 in omega (arith, t .threads, t .few, t .asked, t .entries)
 
+add-length-4 : tie.Need-add-length-4
+add-length-4 c =
+    let t = taken c .1 in omega (arith, t .threads, t .few, t .asked, t .entries)
+
 returns-2 : tie.Need-returns-2
 returns-2 c =
     let d = c .before in
@@ -95,6 +99,7 @@ write-spec =
     add-length
     add-length-2
     add-length-3
+    add-length-4
     returns-2
     put-file-requires
     same-length

@@ -7,14 +7,14 @@ use Rattle.object.specs.declared.Kind.{Kind}
 use Rattle.object.specs.declared.Request.{Request}
 use Rattle.object.specs.declared.Object.{Object}
 use Rattle.object.specs.declared.Applied.{Applied}
-use Rattle.object.specs.Apply.{knows, served, refusedWith, appliedTo}
+use Rattle.object.specs.Apply.{knows, appliedKnown, refusedWith, appliedTo}
 use Rattle.object.proofs.Refusal.{passes, fails}
 use Rattle.object.proofs.applied_to.Statement.{statement}
 use Rattle.object.proofs.applied_to.Tie as tie
 
 module _ (kind : Kind) (capacity : ℕ) (request : Request) (ob : Object) {known : Bool} {r : Applied}
     (k : known ≡ knows kind request) where
-  when-known : not known ≡ false → r ≡ served kind capacity request ob → r ≡ appliedTo kind capacity request ob
+  when-known : not known ≡ false → r ≡ appliedKnown kind capacity request ob → r ≡ appliedTo kind capacity request ob
   when-known h s = rw (passes k h) s
 
   when-unknown : not known ≡ true → r ≡ refusedWith 9 ob → r ≡ appliedTo kind capacity request ob

@@ -1,0 +1,22 @@
+-- A choice by two numbers. Assumes nothing.
+use Prim.Native.Nat.{ℕ, _≤_, _<_}
+use native.Mathlib.Decide.{ℕ-discrete}
+use mathlib.Core.Path.{_≡_, refl}
+use mathlib.Core.Bool.{Bool, true, false}
+use lib.Dec.{ltb}
+use borrow.Author.Tests.{ltb-true, ltb-false}
+
+-- two numbers are equal or not
+pub by-equal : {P : Type 0} (j k : ℕ) → (j ≡ k → P) → ((j ≡ k → ⊥) → P) → P
+by-equal {P} j k same other = go (ℕ-discrete j k)
+  where
+    go : Dec (j ≡ k) → P
+    go (yes e) = same e
+    go (no e) = other e
+
+pub by-order : {P : Type 0} (j k : ℕ) → (j < k → P) → (k ≤ j → P) → P
+by-order {P} j k under over = go (ltb j k) refl
+  where
+    go : (b : Bool) → ltb j k ≡ b → P
+    go true e = under (ltb-true j k e)
+    go false e = over (ltb-false j k e)
