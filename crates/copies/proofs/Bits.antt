@@ -1,7 +1,7 @@
 -- Bits of a number: one that is 0 may be set, and the lowest n may be cleared; the other bits stay. Assumes nothing.
 use Prim.Native.Nat.{ℕ, zero, suc, _+_, _*_, _/_, _%_, _^_, _<_, _≤_}
 use native.Mathlib.Omega.{arith, pow-step}
-use native.Mathlib.Nat.{div-div-eq-div-mul, div-one, mul-left-comm}
+use native.Mathlib.Nat.{div-div-eq-div-mul, div-one, mul-left-comm, mul-div-cancel, one-le-pow}
 use mathlib.Core.Path.{_≡_, refl, sym, ap, ap₂, _∙_}
 
 -- bit t of w
@@ -67,3 +67,18 @@ bit-past (suc n) w (suc u) h =
     ∙ ap (λ (v : ℕ). bit v u) half
     ∙ bit-past n (w / 2) u (omega arith)
     ∙ sym (bit-half w u)
+
+-- the bits from n on, as a number, where one below n is set or the lowest n are cleared
+pub past-set : (n w t : ℕ) → t < n → bit w t ≡ 0 → (w + 2 ^ t) / 2 ^ n ≡ w / 2 ^ n
+past-set zero w t h e = absurd (omega arith)
+past-set (suc n) w zero h e =
+    let half : (w + 1) / 2 ≡ w / 2 = omega (arith, bit-zero w) in
+    halved (w + 1) n ∙ ap (λ (v : ℕ). v / 2 ^ n) half ∙ sym (halved w n)
+past-set (suc n) w (suc t) h e =
+    halved (w + 2 ^ suc t) n
+    ∙ ap (λ (v : ℕ). v / 2 ^ n) (half-set w t)
+    ∙ past-set n (w / 2) t (omega arith) (sym (bit-half w t) ∙ e)
+    ∙ sym (halved w n)
+
+pub past-cleared : (n w : ℕ) → cleared n w / 2 ^ n ≡ w / 2 ^ n
+past-cleared n w = mul-div-cancel (w / 2 ^ n) (one-le-pow n 2 (omega arith))

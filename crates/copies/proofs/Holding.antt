@@ -8,9 +8,9 @@ use lib.ListN.{getD, length}
 use lib.Seq.{getD-set-same, getD-set-other}
 use Rattle.machine.specs.declared.Field.{Field}
 use Rattle.machine.specs.declared.Field.the-variants.{Req, Ret, Wait, Completed, Next}
-use Rattle.machine.specs.Lines.{Location, tail, part, Access, read, write, swap}
+use Rattle.machine.specs.Lines.{fieldNumber, Location, tail, part, Access, read, write, swap}
 use Rattle.copies.specs.Copies.{hasCopy}
-use Rattle.copies.specs.Remote.{fieldNumber, place, located, holds, wordAfter, copiesAfter}
+use Rattle.copies.specs.Remote.{place, located, hasCopyOf, wordAfter, copiesAfter}
 use Rattle.copies.proofs.Valid.{read-holds, read-keeps, write-holds, write-ends}
 
 -- a node has five fields
@@ -49,27 +49,27 @@ Ends (swap l) = Unit
 
 module _ (n t : ℕ) (copies : List ℕ) where
   -- the copies of another location are as they were
-  pub elsewhere-kept : (a : Access) (u : ℕ) (l : Location) → (l ≡ located a → ⊥) → holds (copiesAfter n t a copies) u l ≡ holds copies u l
+  pub elsewhere-kept : (a : Access) (u : ℕ) (l : Location) → (l ≡ located a → ⊥) → hasCopyOf (copiesAfter n t a copies) u l ≡ hasCopyOf copies u l
   elsewhere-kept a u l d =
       ap (λ (w : ℕ). hasCopy w u) (getD-set-other copies (place (located a)) (place l) _ 0 (λ e. d (place-injective l (located a) e)))
 
   here : (a : Access) (u : ℕ) → place (located a) < length copies
-      → holds (copiesAfter n t a copies) u (located a) ≡ hasCopy (wordAfter n t a (getD copies (place (located a)) 0)) u
+      → hasCopyOf (copiesAfter n t a copies) u (located a) ≡ hasCopy (wordAfter n t a (getD copies (place (located a)) 0)) u
   here a u h = ap (λ (w : ℕ). hasCopy w u) (getD-set-same copies (place (located a)) _ 0 h)
 
   -- a read keeps the other threads' copies of its location
-  pub read-kept : (l : Location) (u : ℕ) → place l < length copies → (u ≡ t → ⊥) → holds (copiesAfter n t (read l) copies) u l ≡ holds copies u l
+  pub read-kept : (l : Location) (u : ℕ) → place l < length copies → (u ≡ t → ⊥) → hasCopyOf (copiesAfter n t (read l) copies) u l ≡ hasCopyOf copies u l
   read-kept l u h d = here (read l) u h ∙ read-keeps (getD copies (place l) 0) t u d
 
   module _ (k : t < n) (m : n ≤ 16) where
     -- the thread has a copy of the location of its access
-    pub own-held : (a : Access) → place (located a) < length copies → holds (copiesAfter n t a copies) t (located a) ≡ true
+    pub own-held : (a : Access) → place (located a) < length copies → hasCopyOf (copiesAfter n t a copies) t (located a) ≡ true
     own-held (read l) h = here (read l) t h ∙ read-holds (getD copies (place l) 0) t (omega arith)
     own-held (write l) h = here (write l) t h ∙ write-holds n (getD copies (place l) 0) t k m
     own-held (swap l) h = here (swap l) t h ∙ write-holds n (getD copies (place l) 0) t k m
 
     -- a write or Swap ends the copy of each other thread of the n
-    pub others-ended : (a : Access) → Ends a → (u : ℕ) → place (located a) < length copies → u < n → (u ≡ t → ⊥) → holds (copiesAfter n t a copies) u (located a) ≡ false
+    pub others-ended : (a : Access) → Ends a → (u : ℕ) → place (located a) < length copies → u < n → (u ≡ t → ⊥) → hasCopyOf (copiesAfter n t a copies) u (located a) ≡ false
     others-ended (read l) r u h b d = absurd r
     others-ended (write l) r u h b d = here (write l) u h ∙ write-ends n (getD copies (place l) 0) t k m u b d
     others-ended (swap l) r u h b d = here (swap l) u h ∙ write-ends n (getD copies (place l) 0) t k m u b d

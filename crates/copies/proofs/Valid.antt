@@ -1,5 +1,5 @@
 -- Valid copies of one location: what a read and a write leave, and that what they add stays in 16 bits. Assumes nothing.
-use Prim.Native.Nat.{ℕ, _+_, _^_, _<_, _≤_}
+use Prim.Native.Nat.{ℕ, _+_, _/_, _^_, _<_, _≤_}
 use native.Mathlib.Omega.{arith}
 use native.Mathlib.Decide.{decLe}
 use native.Mathlib.Nat.{add-zero, zero-div, div-mul-le-self, lt-of-not-le}
@@ -8,7 +8,7 @@ use mathlib.Core.Bool.{Bool, true, false, _&&_, and-false}
 use borrow.Author.Tests.{lt-ltb, le-ltb, le-leb, lt-leb, eqb-false}
 use lib.Dec.{ltb, eqb}
 use Rattle.copies.specs.Copies.{hasCopy, afterRead, afterWrite}
-use Rattle.copies.proofs.Bits.{bit, cleared, bit-set, bit-other, set-fits, bit-cleared, bit-past}
+use Rattle.copies.proofs.Bits.{bit, cleared, bit-set, bit-other, set-fits, bit-cleared, bit-past, past-set, past-cleared}
 
 -- the number 0 has no copies
 pub none-held : (t : ℕ) → hasCopy 0 t ≡ false
@@ -72,6 +72,14 @@ module _ (w t : ℕ) where
       (λ k e. refl)
       (λ k e. same-held (w + 2 ^ t) w u (bit-other w t u (bit-unheld w t k e) d))
 
+  -- those from n on too, where its thread is below n
+  pub read-past : (n : ℕ) → t < n → afterRead w t / 2 ^ n ≡ w / 2 ^ n
+  read-past n h =
+      read-cases w t (λ v. v / 2 ^ n ≡ w / 2 ^ n)
+      (λ k. refl)
+      (λ k e. refl)
+      (λ k e. past-set n w t h (bit-unheld w t k e))
+
   pub added-fits : w < 2 ^ 16 → t < 16 → hasCopy w t ≡ false → w + 2 ^ t < 2 ^ 16
   added-fits f h e = set-fits w t 16 h f (bit-unheld w t h e)
 
@@ -82,6 +90,13 @@ module _ (n w t : ℕ) where
       write-cases n w t (λ v. hasCopy v u ≡ hasCopy w u)
       refl
       (λ h m. same-held (cleared n w + 2 ^ t) w u (bit-other (cleared n w) t u (bit-cleared n w t h) (λ e. omega arith) ∙ bit-past n w u k))
+
+  -- as one number
+  pub write-past : afterWrite n w t / 2 ^ n ≡ w / 2 ^ n
+  write-past =
+      write-cases n w t (λ v. v / 2 ^ n ≡ w / 2 ^ n)
+      refl
+      (λ h m. past-set n (cleared n w) t h (bit-cleared n w t h) ∙ past-cleared n w)
 
   pub cleared-fits : w < 2 ^ 16 → t < n → n ≤ 16 → cleared n w + 2 ^ t < 2 ^ 16
   cleared-fits f h k =

@@ -7,15 +7,8 @@ use Rattle.machine.specs.declared.Field.{Field}
 use Rattle.machine.specs.declared.Field.the-variants.{Req, Ret, Wait, Completed, Next}
 use Rattle.machine.specs.declared.SharedAccess.{SharedAccess}
 use Rattle.machine.specs.declared.SharedAccess.the-variants.{NoAccess, Read, Write, Swap}
-use Rattle.machine.specs.Lines.{Location, tail, part, Access, read, write, swap}
+use Rattle.machine.specs.Lines.{Location, fieldNumber, tail, part, Access, read, write, swap}
 use Rattle.copies.specs.Copies.{hasCopy, afterRead, afterWrite}
-
-abbrev pub fieldNumber : Field → ℕ
-fieldNumber Req = 0
-fieldNumber Ret = 1
-fieldNumber Wait = 2
-fieldNumber Completed = 3
-fieldNumber Next = 4
 
 -- the place of a location among the copies: Tail, then the five fields of each node
 abbrev pub place : Location → ℕ
@@ -29,12 +22,12 @@ located (write l) = l
 located (swap l) = l
 
 -- whether a thread has a valid copy of a location, by the location's place
-abbrev pub holds : List ℕ → ℕ → Location → Bool
-holds copies t l = hasCopy (getD copies (place l) 0) t
+abbrev pub hasCopyOf : List ℕ → ℕ → Location → Bool
+hasCopyOf copies t l = hasCopy (getD copies (place l) 0) t
 
 -- an access is remote if its thread has no valid copy
 abbrev pub remoteOf : List ℕ → ℕ → Access → ℕ
-remoteOf copies t access = cond (holds copies t (located access)) 0 1
+remoteOf copies t access = cond (hasCopyOf copies t (located access)) 0 1
 
 -- afterwards the thread has a copy; a write or Swap ends every other thread's, of n threads
 abbrev pub wordAfter : ℕ → ℕ → Access → ℕ → ℕ

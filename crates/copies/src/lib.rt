@@ -118,7 +118,13 @@ fn is_none(access: SharedAccess) -> bool
 }
 
 // The remote references of a line's accesses to its node, and the copies after them.
-pub fn refer_all(copies: &mut [u16; 86], row: Row, node: NodeId, thread: ThreadId, n: u8) -> u8
+pub fn refer_all(
+    copies: &mut [u16; machine::LOCATIONS],
+    row: Row,
+    node: NodeId,
+    thread: ThreadId,
+    n: u8,
+) -> u8
     ensures { λ r. ⌜ r ≡ referred n (thread .0) (now (copies .entry)) (accessesOf row node) .remote ⌝ }
     ensures { λ r. ⌜ now (copies .exit) ≡ referred n (thread .0) (now (copies .entry)) (accessesOf row node) .copies ⌝ }
 {

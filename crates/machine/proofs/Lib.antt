@@ -1,3 +1,4 @@
+pub mod Events
 pub mod Refusal
 pub mod Table
 pub mod Written

@@ -11,7 +11,7 @@ use Rattle.machine.specs.declared.Node.{Node}
 use Rattle.machine.specs.declared.Thread.{Thread}
 use Rattle.machine.specs.declared.Effect.{Effect}
 use Rattle.machine.specs.Lines.{lineOf, lineRun}
-use Rattle.machine.specs.Effect.{takesOut, ran, refusedEffect, effectOf}
+use Rattle.machine.specs.Effect.{takesOut, executed, refusedEffect, effectOf}
 use Rattle.machine.proofs.Written.{told}
 
 left-false : (a b : Bool) → (a || b) ≡ false → a ≡ false
@@ -33,16 +33,16 @@ module _ (th : Thread) (x : Node) (tail : NodeId) (h : ℕ) (request : Request) 
   line = lineRun th
 
   abbrev does : Bool → Effect
-  does out = cond out (refusedEffect th x tail h request answer) (ran th x tail h request answer (lineOf line))
+  does out = cond out (refusedEffect th x tail h request answer) (executed th x tail h request answer (lineOf line))
 
   by-test : (out : Bool) → does out .refusal ≡ 0
-      → (out ≡ false) × (does out ≡ ran th x tail h request answer (lineOf line))
+      → (out ≡ false) × (does out ≡ executed th x tail h request answer (lineOf line))
   by-test true e = absurd (omega (arith, e))
   by-test false e = (refl, refl)
 
   -- a line that is not refused takes nothing out, and does what Algorithm 1 does
   pub goes-through : effectOf th x tail h request answer .refusal ≡ 0
-      → (takesOut th x h line ≡ false) × (effectOf th x tail h request answer ≡ ran th x tail h request answer (lineOf line))
+      → (takesOut th x h line ≡ false) × (effectOf th x tail h request answer ≡ executed th x tail h request answer (lineOf line))
   goes-through = by-test (takesOut th x h line)
 
   refused-by : (out : Bool) → (does out .refusal ≡ 0 → ⊥) → out ≡ true

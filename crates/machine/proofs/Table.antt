@@ -1,16 +1,55 @@
--- The rows of the printed lines, as a list, and the numbers that name no line. Assumes nothing.
+-- The rows of the printed lines, as a list: they have document 01's accesses, and an entry is what these make it; and the numbers that name no line.
+-- Assumes nothing.
 use Prim.Native.Nat.{ℕ, zero, suc, _-_, _<_}
 use native.Mathlib.Omega.{arith}
 use native.Mathlib.Numerals.{unary-clauses}
-use mathlib.Core.Path.{_≡_, refl, sym}
-use mathlib.Core.List.{map}
+use mathlib.Core.Path.{_≡_, refl, sym, ap, _∙_}
+use mathlib.Core.Bool.{Bool}
+use mathlib.Core.List.{List, [], _∷_, map}
 use lib.ListN.{getD, List·getD-map, List·getD-eq-default}
-use Rattle.machine.specs.Lines.{Blank, printed, lineOf, silent, rowOf}
+use Rattle.machine.specs.declared.Thread.{Thread}
+use Rattle.machine.specs.declared.Field.the-variants.{Req, Ret, Wait}
+use Rattle.machine.specs.declared.Event.the-variants.{Swaps, Applies, Returns, Spins, Other}
+use Rattle.machine.specs.declared.Row.{Row}
+use Rattle.machine.specs.Lines.{Line, L0, printed, lineOf, rowOf, pointed, sameEvent, accessesOf, sharedAccesses, saidEvents, beside}
+use Rattle.machine.proofs.Written.{readsField, writesField, swapsTail}
 
 -- place k of the list of the rows holds the row of line k + 1
-pub row-at : (line : ℕ) → 0 < line → getD (map rowOf printed) (line - 1) silent ≡ rowOf (lineOf line)
+pub row-at : (line : ℕ) → 0 < line → getD (map rowOf printed) (line - 1) (rowOf L0) ≡ rowOf (lineOf line)
 row-at zero h = absurd (omega arith)
-row-at (suc k) h = simp unary-clauses (List·getD-map rowOf printed k Blank)
+row-at (suc k) h = simp unary-clauses (List·getD-map rowOf printed k L0)
+
+-- k and the numbers that follow, n in all
+abbrev pub upFrom : ℕ → ℕ → List ℕ
+upFrom k zero = []
+upFrom k (suc n) = k ∷ upFrom (suc k) n
+
+-- lines 1 to 21 make the accesses that document 01's table has beside their numbers, and no others
+pub as-tabled : (th : Thread)
+    → map (λ l. accessesOf (rowOf l) (pointed (rowOf l .node) th)) printed ≡ map (λ k. beside [] k (sharedAccesses th)) (upFrom 1 21)
+as-tabled th = refl
+
+-- an entry of each is what document 01 says of its number
+pub as-said : map (λ l. rowOf l .event) printed ≡ map (λ k. beside Other k saidEvents) (upFrom 1 21)
+as-said = refl
+
+-- two tests of a line that agree on all lines at once agree on the line of each number
+at-each : {A : Type 0} (f g : Line → A) → map f (L0 ∷ printed) ≡ map g (L0 ∷ printed) → (k : ℕ) → f (lineOf k) ≡ g (lineOf k)
+at-each f g e k =
+    sym (List·getD-map f (L0 ∷ printed) k L0) ∙ ap (λ (l : List _). getD l k (getD l 0 (f L0))) e ∙ List·getD-map g (L0 ∷ printed) k L0
+
+-- whether an entry of a row applies a request, which takes two accesses, returns, may spin, and swaps: by the row's event
+abbrev pub byEvent : Row → List Bool
+byEvent row = map (sameEvent (row .event)) (Applies ∷ Applies ∷ Returns ∷ Spins ∷ Swaps ∷ [])
+
+-- and by its accesses
+abbrev pub byAccess : Row → List Bool
+byAccess row = readsField Req row ∷ writesField Ret row ∷ readsField Ret row ∷ readsField Wait row ∷ swapsTail row ∷ []
+
+-- the two agree on every line: req is read and ret written where a request is applied, ret is read where a call returns, wait is read where a thread may
+-- spin, and Tail is swapped by a Swap, each there and nowhere else
+pub used : (k : ℕ) → byEvent (rowOf (lineOf k)) ≡ byAccess (rowOf (lineOf k))
+used = at-each (λ l. byEvent (rowOf l)) (λ l. byAccess (rowOf l)) refl
 
 -- none of the numbers 1 to k
 abbrev pub NoneOf : ℕ → ℕ → Type 0
@@ -25,11 +64,11 @@ past (suc k) n h r =
     omega arith
 
 -- past 21 there is no line
-pub no-line-above : (n : ℕ) → 21 < n → Blank ≡ lineOf n
+pub no-line-above : (n : ℕ) → 21 < n → L0 ≡ lineOf n
 no-line-above zero h = absurd (omega arith)
-no-line-above (suc k) h = sym (List·getD-eq-default printed Blank {n = k} (omega arith))
+no-line-above (suc k) h = sym (List·getD-eq-default printed L0 {n = k} (omega arith))
 
 -- nor among what is left when 1 to 21 are taken out
-pub no-line : (n : ℕ) → NoneOf 21 n → Blank ≡ lineOf n
+pub no-line : (n : ℕ) → NoneOf 21 n → L0 ≡ lineOf n
 no-line zero r = refl
 no-line (suc k) r = no-line-above (suc k) (past 21 (suc k) (omega arith) r)

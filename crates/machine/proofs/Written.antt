@@ -1,7 +1,9 @@
--- The table tells the truth: by its row a line changes no field of its node but those that it writes, which it sets whatever they held,
--- and Tail only by a Swap; its thread after it depends on the fields that the row reads alone, and a req or ret that it uses is one of these. Assumes nothing.
+-- The table tells the truth: what a line does is a function of what it finds in the places that its row touches, for every line at once. It changes no
+-- field of its node but those that the row writes, and Tail only by a Swap; what it makes of its thread and of these fields depends on the fields that
+-- the row reads alone. Assumes nothing.
 use Prim.Native.Nat.{ℕ}
 use mathlib.Core.Path.{_≡_, refl}
+use mathlib.Core.Bool.{Bool, true, false, cond, _||_}
 use Rattle.object.specs.declared.Request.{Request}
 use Rattle.object.specs.declared.Answer.{Answer}
 use Rattle.machine.specs.declared.NodeId.{NodeId}
@@ -12,9 +14,11 @@ use Rattle.machine.specs.declared.Field.{Field}
 use Rattle.machine.specs.declared.Field.the-variants.{Req, Ret, Wait, Completed, Next}
 use Rattle.machine.specs.declared.SharedAccess.{SharedAccess}
 use Rattle.machine.specs.declared.SharedAccess.the-variants.{NoAccess, Read, Write, Swap}
+use Rattle.machine.specs.declared.Event.{Event}
+use Rattle.machine.specs.declared.Event.the-variants.{Spins, Other}
 use Rattle.machine.specs.declared.Row.{Row}
-use Rattle.machine.specs.Lines.{Line, Blank, L1, L2, L3, L4, L5, L6, L7, L8, L9, L10, L11, L12, L13, L14, L15, L16, L17, L18, L19, L20, L21, rowOf}
-use Rattle.machine.specs.Effect.{ran, withWait, withCompleted, withNext}
+use Rattle.machine.specs.Lines.{Line, L0, L1, L2, L3, L4, L5, L6, L7, L8, L9, L10, L11, L12, L13, L14, L15, L16, L17, L18, L19, L20, L21, rowOf, eventIn, sameField, nodeTold, reqTold, retTold}
+use Rattle.machine.specs.Effect.{executed, withWait, withCompleted, withNext}
 
 -- a node with one field taken from another
 abbrev pub fieldFrom : Field → Node → Node → Node
@@ -45,46 +49,134 @@ rowWrites row y x = writtenFrom (row .second) y (writtenFrom (row .first) y x)
 abbrev pub rowReads : Row → Node → Node → Node
 rowReads row y x = readFrom (row .second) y (readFrom (row .first) y x)
 
--- Tail after an access
-abbrev pub tailFrom : SharedAccess → NodeId → NodeId → NodeId
-tailFrom NoAccess after tail = tail
-tailFrom (Read field) after tail = tail
-tailFrom (Write field) after tail = tail
-tailFrom Swap after tail = after
+-- whether an access reads, or writes, a field that passes a test, or is a Swap
+abbrev pub isRead : (Field → Bool) → SharedAccess → Bool
+isRead test NoAccess = false
+isRead test (Read field) = test field
+isRead test (Write field) = false
+isRead test Swap = false
 
--- what a row tells of a line, whose effect on a node is given; Algorithm 1 itself refuses nothing
-pub record Told (row : Row) (x : Node) (before : NodeId) (does : Node → Effect) : Type 0 where
-  pub refusal : does x .refusal ≡ 0
-  pub node : does x .node ≡ rowWrites row (does x .node) x
-  pub sets : (y : Node) → does (rowWrites row y x) .node ≡ does x .node
-  pub tail : does x .tail ≡ tailFrom (row .first) (does x .tail) before
-  pub reads : (y : Node) → does (rowReads row x y) .thread ≡ does x .thread
+abbrev pub isWrite : (Field → Bool) → SharedAccess → Bool
+isWrite test NoAccess = false
+isWrite test (Read field) = false
+isWrite test (Write field) = test field
+isWrite test Swap = false
+
+abbrev pub isSwap : SharedAccess → Bool
+isSwap NoAccess = false
+isSwap (Read field) = false
+isSwap (Write field) = false
+isSwap Swap = true
+
+-- whether a row has an access that passes a test, and which
+abbrev pub accesses : (SharedAccess → Bool) → Row → Bool
+accesses test row = test (row .first) || test (row .second)
+
+abbrev pub readsField : Field → Row → Bool
+readsField field = accesses (isRead (sameField field))
+
+abbrev pub writesField : Field → Row → Bool
+writesField field = accesses (isWrite (sameField field))
+
+abbrev pub writesNode : Row → Bool
+writesNode = accesses (isWrite (λ field. true))
+
+abbrev pub touchesNode : Row → Bool
+touchesNode row = accesses (isRead (λ field. true)) row || writesNode row
+
+abbrev pub swapsTail : Row → Bool
+swapsTail = accesses isSwap
+
+-- what a line finds: the node that it points to, Tail, the request of the thread's call, and the object's answer to the node's req
+pub record Found : Type 0 where
+  pub node : Node
+  pub tail : NodeId
+  pub request : Request
+  pub answer : Answer
+
+-- a node, and of f what the row makes use of: Tail by a Swap, the request where it writes req, the answer where it writes ret; all else of g
+abbrev pub foundWith : Node → Row → Found → Found → Found
+foundWith x row f g = record {
+  node = x;
+  tail = cond (swapsTail row) (f .tail) (g .tail);
+  request = cond (writesField Req row) (f .request) (g .request);
+  answer = cond (writesField Ret row) (f .answer) (g .answer);
+}
+
+-- f where the row touches it, g in all else, the node as a whole
+abbrev pub whereTouched : Row → Found → Found → Found
+whereTouched row f g = foundWith (cond (touchesNode row) (f .node) (g .node)) row f g
+
+-- the same by fields: of the node only those that the row reads are of f
+abbrev pub whereRead : Row → Found → Found → Found
+whereRead row f g = foundWith (rowReads row (f .node) (g .node)) row f g
+
+-- what an entry of a row is, by what its line finds
+abbrev pub entryIs : Row → Found → Event
+entryIs row f = eventIn (row .event) (f .node)
+
+-- a line that finds f where its row touches it, and anything, g, in all else, does and tells what it does and tells with f
+pub record Blind (row : Row) (does : Found → Effect) (f g : Found) : Type 0 where
+  -- its thread after it is the same
+  pub thread : does (whereTouched row f g) .thread ≡ does f .thread
+  -- so is the node; one that is not touched stays
+  pub node : does (whereTouched row f g) .node ≡ cond (touchesNode row) (does f .node) (g .node)
+  -- so is Tail; if it is not swapped it stays
+  pub tail : does (whereTouched row f g) .tail ≡ cond (swapsTail row) (does f .tail) (g .tail)
+  -- the entry is the same
+  pub event : entryIs row (whereTouched row f g) ≡ entryIs row f
+  -- the node that it tells, m being that of the row
+  pub told-node : (m : NodeId)
+      → nodeTold (entryIs row (whereTouched row f g)) (whereTouched row f g .tail) m ≡ nodeTold (entryIs row f) (f .tail) m
+  -- the req that it applies
+  pub req : reqTold (entryIs row (whereTouched row f g)) (whereTouched row f g .node) ≡ reqTold (entryIs row f) (f .node)
+  -- the ret that it returns
+  pub ret : retTold (entryIs row (whereTouched row f g)) (whereTouched row f g .node) ≡ retTold (entryIs row f) (f .node)
+
+-- what a row tells of a line that finds f
+pub record Told (row : Row) (does : Found → Effect) (f : Found) : Type 0 where
+  -- Algorithm 1 itself refuses nothing
+  pub refusal : does f .refusal ≡ 0
+  -- the node changes in no field but those that the row writes
+  pub node : does f .node ≡ rowWrites row (does f .node) (f .node)
+  -- and not at all if the row writes none
+  pub kept : does f .node ≡ cond (writesNode row) (does f .node) (f .node)
+  -- what these are set to depends on the fields that the row reads alone
+  pub sets : (g : Found) → does f .node ≡ rowWrites row (does (whereRead row f g) .node) (f .node)
+  -- and so does the thread after it
+  pub reads : (g : Found) → does (whereRead row f g) .thread ≡ does f .thread
+  -- Tail changes only by a Swap
+  pub tail : does f .tail ≡ cond (swapsTail row) (does f .tail) (f .tail)
+  -- and by whole nodes: what the row does not touch does not matter
+  pub blind : (g : Found) → Blind row does f g
+
+-- line 9 tells no node, a spin or not, so Tail does not matter
+spin-tells-none : (waits : Bool) (to tail m : NodeId) → nodeTold (cond waits Spins Other) to m ≡ nodeTold (cond waits Spins Other) tail m
+spin-tells-none true to tail m = refl
+spin-tells-none false to tail m = refl
 
 module _ (th : Thread) (x : Node) (tail : NodeId) (h : ℕ) (request : Request) (answer : Answer) where
-  pub told : (l : Line) → Told (rowOf l) x tail (λ y. ran th y tail h request answer l)
-  told Blank = record { refusal = refl; node = refl; sets = λ y. refl; tail = refl; reads = λ y. refl }
-  told L1 = record { refusal = refl; node = refl; sets = λ y. refl; tail = refl; reads = λ y. refl }
-  told L2 = record { refusal = refl; node = refl; sets = λ y. refl; tail = refl; reads = λ y. refl }
-  told L3 = record { refusal = refl; node = refl; sets = λ y. refl; tail = refl; reads = λ y. refl }
-  told L4 = record { refusal = refl; node = refl; sets = λ y. refl; tail = refl; reads = λ y. refl }
-  told L5 = record { refusal = refl; node = refl; sets = λ y. refl; tail = refl; reads = λ y. refl }
-  told L6 = record { refusal = refl; node = refl; sets = λ y. refl; tail = refl; reads = λ y. refl }
-  told L7 = record { refusal = refl; node = refl; sets = λ y. refl; tail = refl; reads = λ y. refl }
-  told L8 = record { refusal = refl; node = refl; sets = λ y. refl; tail = refl; reads = λ y. refl }
-  told L9 = record { refusal = refl; node = refl; sets = λ y. refl; tail = refl; reads = λ y. refl }
-  told L10 = record { refusal = refl; node = refl; sets = λ y. refl; tail = refl; reads = λ y. refl }
-  told L11 = record { refusal = refl; node = refl; sets = λ y. refl; tail = refl; reads = λ y. refl }
-  told L12 = record { refusal = refl; node = refl; sets = λ y. refl; tail = refl; reads = λ y. refl }
-  told L13 = record { refusal = refl; node = refl; sets = λ y. refl; tail = refl; reads = λ y. refl }
-  told L14 = record { refusal = refl; node = refl; sets = λ y. refl; tail = refl; reads = λ y. refl }
-  told L15 = record { refusal = refl; node = refl; sets = λ y. refl; tail = refl; reads = λ y. refl }
-  told L16 = record { refusal = refl; node = refl; sets = λ y. refl; tail = refl; reads = λ y. refl }
-  told L17 = record { refusal = refl; node = refl; sets = λ y. refl; tail = refl; reads = λ y. refl }
-  told L18 = record { refusal = refl; node = refl; sets = λ y. refl; tail = refl; reads = λ y. refl }
-  told L19 = record { refusal = refl; node = refl; sets = λ y. refl; tail = refl; reads = λ y. refl }
-  told L20 = record { refusal = refl; node = refl; sets = λ y. refl; tail = refl; reads = λ y. refl }
-  told L21 = record { refusal = refl; node = refl; sets = λ y. refl; tail = refl; reads = λ y. refl }
-
--- the req that line 16 applies and the ret that lines 11 and 21 return are fields that their rows read
-pub used : (x y : Node) → (rowReads (rowOf L16) x y .req ≡ x .req) × ((rowReads (rowOf L11) x y .ret ≡ x .ret) × (rowReads (rowOf L21) x y .ret ≡ x .ret))
-used x y = (refl, (refl, refl))
+  pub told : (l : Line)
+      → Told (rowOf l) (λ f. executed th (f .node) (f .tail) h (f .request) (f .answer) l) (record { node = x; tail = tail; request = request; answer = answer })
+  told L0 = search
+  told L1 = search
+  told L2 = search
+  told L3 = search
+  told L4 = search
+  told L5 = search
+  told L6 = search
+  told L7 = search
+  told L8 = search
+  told L9 = search spin-tells-none
+  told L10 = search
+  told L11 = search
+  told L12 = search
+  told L13 = search
+  told L14 = search
+  told L15 = search
+  told L16 = search
+  told L17 = search
+  told L18 = search
+  told L19 = search
+  told L20 = search
+  told L21 = search

@@ -12,14 +12,7 @@ use Rattle.machine.specs.declared.RetVal.the-variants.{NoAnswer, Answere
 use Rattle.machine.specs.declared.Node.{Node}
 use Rattle.machine.specs.declared.Thread.{Thread}
 use Rattle.machine.specs.declared.Effect.{Effect}
-use Rattle.machine.specs.Lines.{Line, lineOf, lineRun, Blank, L1, L2, L3, L4, L5, L6, L7, L8, L9, L10, L11, L12, L13, L14, L15, L16, L17, L18, L19, L20, L21}
-
--- null is no node's number
-abbrev pub null : NodeId
-null = record { 0 = 255 }
-
-abbrev pub isNull : NodeId → Bool
-isNull m = eqb (m .0) 255
+use Rattle.machine.specs.Lines.{Line, null, isNull, lineOf, lineRun, L0, L1, L2, L3, L4, L5, L6, L7, L8, L9, L10, L11, L12, L13, L14, L15, L16, L17, L18, L19, L20, L21}
 
 abbrev pub isEmptyReq : Announced → Bool
 isEmptyReq NoRequest = true
@@ -53,11 +46,11 @@ module _ (th : Thread) (line : ℕ) where
     count = th .count;
     begun = th .begun;
     line = line;
-    own = own;
-    cur = cur;
-    tmp = tmp;
-    tmpnext = tmpnext;
-    served = served;
+    own = own;  -- node_i
+    cur = cur;  -- curNode
+    tmp = tmp;  -- tmpNode
+    tmpnext = tmpnext;  -- tmpNodeNext
+    served = served;  -- counter
   }
 
   abbrev pub goes : Thread
@@ -117,29 +110,29 @@ module _ (th : Thread) (x : Node) (tail : NodeId) (h : ℕ) (request : Request) 
   writes after line = record { refusal = 0; thread = goes th line; node = after; tail = tail }
 
   -- nextNode is the thread's own node until line 8
-  abbrev pub ran : Line → Effect
-  ran Blank = keeps th
-  ran L1 = keeps (begins th)  -- nextNode = node_i
-  ran L2 = writes (withNext x null) 3  -- nextNode→next = null
-  ran L3 = writes (withWait x true) 4  -- nextNode→wait = TRUE
-  ran L4 = writes (withCompleted x false) 5  -- nextNode→completed = FALSE
-  ran L5 = record { refusal = 0; thread = withCur th 6 tail; node = x; tail = th .own }  -- curNode = Swap(Tail, nextNode)
-  ran L6 = writes (withReq x request) 7  -- curNode→req = req
-  ran L7 = writes (withNext x (th .own)) 8  -- curNode→next = nextNode
-  ran L8 = keeps (withOwn th 9 (th .cur))  -- node_i = curNode
-  ran L9 = keeps (goes th (cond (x .wait) 9 10))  -- while (curNode→wait == TRUE) nop
-  ran L10 = keeps (goes th (cond (x .completed) 11 12))  -- if (curNode→completed == TRUE)
-  ran L11 = keeps (goes th 0)  -- return curNode→ret
-  ran L12 = keeps (withTmp th 13 (th .cur))  -- tmpNode = curNode
-  ran L13 = keeps (goes th (cond (not (isNull (x .next)) && ltb (th .served) h) 14 20))  -- while (tmpNode→next ≠ null AND counter < h)
-  ran L14 = keeps (withServed th 15 (th .served + 1))  -- counter = counter + 1
-  ran L15 = keeps (withTmpnext th 16 (x .next))  -- tmpNodeNext = tmpNode→next
-  ran L16 = writes (withRet x answer) 17  -- apply tmpNode→req, store the return value to tmpNode→ret
-  ran L17 = writes (withCompleted x true) 18  -- tmpNode→completed = TRUE
-  ran L18 = writes (withWait x false) 19  -- tmpNode→wait = FALSE
-  ran L19 = keeps (withTmp th 13 (th .tmpnext))  -- tmpNode = tmpNodeNext
-  ran L20 = writes (withWait x false) 21  -- tmpNode→wait = FALSE
-  ran L21 = keeps (goes th 0)  -- return curNode→ret
+  abbrev pub executed : Line → Effect
+  executed L0 = keeps th
+  executed L1 = keeps (begins th)  -- nextNode = node_i
+  executed L2 = writes (withNext x null) 3  -- nextNode→next = null
+  executed L3 = writes (withWait x true) 4  -- nextNode→wait = TRUE
+  executed L4 = writes (withCompleted x false) 5  -- nextNode→completed = FALSE
+  executed L5 = record { refusal = 0; thread = withCur th 6 tail; node = x; tail = th .own }  -- curNode = Swap(Tail, nextNode)
+  executed L6 = writes (withReq x request) 7  -- curNode→req = req
+  executed L7 = writes (withNext x (th .own)) 8  -- curNode→next = nextNode
+  executed L8 = keeps (withOwn th 9 (th .cur))  -- node_i = curNode
+  executed L9 = keeps (goes th (cond (x .wait) 9 10))  -- while (curNode→wait == TRUE) nop
+  executed L10 = keeps (goes th (cond (x .completed) 11 12))  -- if (curNode→completed == TRUE)
+  executed L11 = keeps (goes th 0)  -- return curNode→ret
+  executed L12 = keeps (withTmp th 13 (th .cur))  -- tmpNode = curNode
+  executed L13 = keeps (goes th (cond (not (isNull (x .next)) && ltb (th .served) h) 14 20))  -- while (tmpNode→next ≠ null AND counter < h)
+  executed L14 = keeps (withServed th 15 (th .served + 1))  -- counter = counter + 1
+  executed L15 = keeps (withTmpnext th 16 (x .next))  -- tmpNodeNext = tmpNode→next
+  executed L16 = writes (withRet x answer) 17  -- apply tmpNode→req, store the return value to tmpNode→ret
+  executed L17 = writes (withCompleted x true) 18  -- tmpNode→completed = TRUE
+  executed L18 = writes (withWait x false) 19  -- tmpNode→wait = FALSE
+  executed L19 = keeps (withTmp th 13 (th .tmpnext))  -- tmpNode = tmpNodeNext
+  executed L20 = writes (withWait x false) 21  -- tmpNode→wait = FALSE
+  executed L21 = keeps (goes th 0)  -- return curNode→ret
 
   -- a line that takes something out is 14, with all as it was
   abbrev pub refusedEffect : Effect
@@ -147,4 +140,4 @@ module _ (th : Thread) (x : Node) (tail : NodeId) (h : ℕ) (request : Request) 
 
   -- what the thread's next line does
   abbrev pub effectOf : Effect
-  effectOf = cond (takesOut th x h (lineRun th)) refusedEffect (ran (lineOf (lineRun th)))
+  effectOf = cond (takesOut th x h (lineRun th)) refusedEffect (executed (lineOf (lineRun th)))

@@ -1,2 +1,3 @@
 pub mod Effect
 pub mod Lines
+pub mod Sizes

@@ -1,10 +1,15 @@
 -- The printed lines of Algorithm 1 of source 004, and the table of document 01, 'One entry, one line': field and access of each.
 use Prim.Native.Nat.{ℕ}
 use mathlib.Core.List.{List, [], _∷_, _++_}
-use mathlib.Core.Bool.{cond}
+use mathlib.Core.Bool.{Bool, cond}
 use lib.ListN.{getD}
 use lib.Dec.{eqb, ltb}
 use Rattle.machine.specs.declared.NodeId.{NodeId}
+use Rattle.machine.specs.declared.Announced.{Announced}
+use Rattle.machine.specs.declared.Announced.the-variants.{NoRequest}
+use Rattle.machine.specs.declared.RetVal.{RetVal}
+use Rattle.machine.specs.declared.RetVal.the-variants.{NoAnswer}
+use Rattle.machine.specs.declared.Node.{Node}
 use Rattle.machine.specs.declared.Thread.{Thread}
 use Rattle.machine.specs.declared.Pointer.{Pointer}
 use Rattle.machine.specs.declared.Pointer.the-variants.{Own, Cur, Tmp}
@@ -12,11 +17,13 @@ use Rattle.machine.specs.declared.Field.{Field}
 use Rattle.machine.specs.declared.Field.the-variants.{Req, Ret, Wait, Completed, Next}
 use Rattle.machine.specs.declared.SharedAccess.{SharedAccess}
 use Rattle.machine.specs.declared.SharedAccess.the-variants.{NoAccess, Read, Write, Swap}
+use Rattle.machine.specs.declared.Event.{Event}
+use Rattle.machine.specs.declared.Event.the-variants.{Blank, CallBegins, Swaps, TurnBegins, Applies, TurnEnds, Returns, Spins, Other}
 use Rattle.machine.specs.declared.Row.{Row}
 
--- what an entry runs: one printed line, or none, which is a blank
+-- what an entry runs: one printed line, or none, L0, which is a blank (a thread whose next line is 0 is idle: it runs line 1, or none)
 pub data Line : Type 0 where
-  Blank : Line
+  L0 : Line
   L1 : Line
   L2 : Line
   L3 : Line
@@ -39,54 +46,111 @@ pub data Line : Type 0 where
   L20 : Line
   L21 : Line
 
+-- null is no node's number
+abbrev pub null : NodeId
+null = record { 0 = 255 }
+
+abbrev pub isNull : NodeId → Bool
+isNull m = eqb (m .0) 255
+
 -- the printed lines, 1 to 21
 abbrev pub printed : List Line
 printed = L1 ∷ L2 ∷ L3 ∷ L4 ∷ L5 ∷ L6 ∷ L7 ∷ L8 ∷ L9 ∷ L10 ∷ L11 ∷ L12 ∷ L13 ∷ L14 ∷ L15 ∷ L16 ∷ L17 ∷ L18 ∷ L19 ∷ L20 ∷ L21 ∷ []
 
 -- the line of a number; a blank has the number 0, and past 21 there is no line either
 abbrev pub lineOf : ℕ → Line
-lineOf k = getD (Blank ∷ printed) k Blank
+lineOf k = getD (L0 ∷ printed) k L0
 
 -- the number of the line that a thread's entry runs: an idle thread with a request left runs line 1 of a new call, one without gives a blank
 abbrev pub lineRun : Thread → ℕ
 lineRun th = cond (eqb (th .line) 0) (cond (ltb (th .begun) (th .count)) 1 0) (th .line)
 
-abbrev pub silent : Row
-silent = record { node = Own; first = NoAccess; second = NoAccess }
+-- a row of the table: which node a line points to, its accesses in order, and what an entry of it is
+abbrev pub row : Pointer → SharedAccess → SharedAccess → Event → Row
+row node first second event = record { node = node; first = first; second = second; event = event }
 
-abbrev pub one : Pointer → SharedAccess → Row
-one node access = record { node = node; first = access; second = NoAccess }
-
--- the table: which node a line points to, and its accesses in order. Line 16 is two. A line that accesses no node has the own node here, and leaves it
+-- the table. Line 16 is two accesses. A line that accesses no node has the own node here, and leaves it. `Spins` is said of a line that may: an entry of it
+-- is a spin where it stays
 abbrev pub rowOf : Line → Row
-rowOf Blank = silent
-rowOf L1 = silent
-rowOf L2 = one Own (Write Next)
-rowOf L3 = one Own (Write Wait)
-rowOf L4 = one Own (Write Completed)
-rowOf L5 = one Own Swap
-rowOf L6 = one Cur (Write Req)
-rowOf L7 = one Cur (Write Next)
-rowOf L8 = silent
-rowOf L9 = one Cur (Read Wait)
-rowOf L10 = one Cur (Read Completed)
-rowOf L11 = one Cur (Read Ret)
-rowOf L12 = silent
-rowOf L13 = one Tmp (Read Next)
-rowOf L14 = silent
-rowOf L15 = one Tmp (Read Next)
-rowOf L16 = record { node = Tmp; first = Read Req; second = Write Ret }
-rowOf L17 = one Tmp (Write Completed)
-rowOf L18 = one Tmp (Write Wait)
-rowOf L19 = silent
-rowOf L20 = one Tmp (Write Wait)
-rowOf L21 = one Cur (Read Ret)
+rowOf L0 = row Own NoAccess NoAccess Blank
+rowOf L1 = row Own NoAccess NoAccess CallBegins
+rowOf L2 = row Own (Write Next) NoAccess Other
+rowOf L3 = row Own (Write Wait) NoAccess Other
+rowOf L4 = row Own (Write Completed) NoAccess Other
+rowOf L5 = row Own Swap NoAccess Swaps
+rowOf L6 = row Cur (Write Req) NoAccess Other
+rowOf L7 = row Cur (Write Next) NoAccess Other
+rowOf L8 = row Own NoAccess NoAccess Other
+rowOf L9 = row Cur (Read Wait) NoAccess Spins
+rowOf L10 = row Cur (Read Completed) NoAccess Other
+rowOf L11 = row Cur (Read Ret) NoAccess Returns
+rowOf L12 = row Own NoAccess NoAccess TurnBegins
+rowOf L13 = row Tmp (Read Next) NoAccess Other
+rowOf L14 = row Own NoAccess NoAccess Other
+rowOf L15 = row Tmp (Read Next) NoAccess Other
+rowOf L16 = row Tmp (Read Req) (Write Ret) Applies
+rowOf L17 = row Tmp (Write Completed) NoAccess Other
+rowOf L18 = row Tmp (Write Wait) NoAccess Other
+rowOf L19 = row Own NoAccess NoAccess Other
+rowOf L20 = row Tmp (Write Wait) NoAccess TurnEnds
+rowOf L21 = row Cur (Read Ret) NoAccess Returns
 
 -- the node that a pointer of the thread gives: the thread's own node, curNode or tmpNode
 abbrev pub pointed : Pointer → Thread → NodeId
 pointed Own th = th .own
 pointed Cur th = th .cur
 pointed Tmp th = th .tmp
+
+-- what an entry of a row is: as the row has it, but a spin only where the line finds wait true; that it then stays, and no other entry does, is `spin-stays`
+-- in proofs/Events.antt
+abbrev pub eventIn : Event → Node → Event
+eventIn Blank x = Blank
+eventIn CallBegins x = CallBegins
+eventIn Swaps x = Swaps
+eventIn TurnBegins x = TurnBegins
+eventIn Applies x = Applies
+eventIn TurnEnds x = TurnEnds
+eventIn Returns x = Returns
+eventIn Spins x = cond (x .wait) Spins Other
+eventIn Other x = Other
+
+-- the number of a field, and whether two are one
+abbrev pub fieldNumber : Field → ℕ
+fieldNumber Req = 0
+fieldNumber Ret = 1
+fieldNumber Wait = 2
+fieldNumber Completed = 3
+fieldNumber Next = 4
+
+abbrev pub sameField : Field → Field → Bool
+sameField a b = eqb (fieldNumber a) (fieldNumber b)
+
+-- the number of an event, and whether two are one. The last two, a spin and one of which nothing is said, leave a thread's call where it is
+abbrev pub eventNumber : Event → ℕ
+eventNumber Blank = 0  -- an idle thread without a request
+eventNumber CallBegins = 1  -- line 1 of a new call
+eventNumber Swaps = 2  -- the call's place in Swap order
+eventNumber TurnBegins = 3  -- its thread becomes the combiner
+eventNumber Applies = 4  -- a request is served
+eventNumber TurnEnds = 5  -- its thread is combiner no more
+eventNumber Returns = 6  -- the call's last line
+eventNumber Spins = 7  -- the thread waits, and stays
+eventNumber Other = 8
+
+abbrev pub sameEvent : Event → Event → Bool
+sameEvent a b = eqb (eventNumber a) (eventNumber b)
+
+-- the node that an entry tells, from Tail as it finds it and the node of its row: the Swap of CC-Synch assigns to its call the node that it gives, Tail's;
+-- an entry that applies takes the request of the row's node; any other tells none
+abbrev pub nodeTold : Event → NodeId → NodeId → NodeId
+nodeTold event tail node = cond (sameEvent event Swaps) tail (cond (sameEvent event Applies) node null)
+
+-- the req that an entry of such an event applies and the ret that it returns, of the node of its row; any other tells none
+abbrev pub reqTold : Event → Node → Announced
+reqTold event x = cond (sameEvent event Applies) (x .req) NoRequest
+
+abbrev pub retTold : Event → Node → RetVal
+retTold event x = cond (sameEvent event Returns) (x .ret) NoAnswer
 
 -- a location is Tail or one field of one node
 pub data Location : Type 0 where
@@ -108,3 +172,41 @@ accessTo node Swap = swap tail ∷ []
 -- the accesses of a line, in order: the only source of remote references
 abbrev pub accessesOf : Row → NodeId → List Access
 accessesOf row node = accessTo node (row .first) ++ accessTo node (row .second)
+
+-- the table as document 01 prints it, one of its rows to a line here: the lines by number, each with its shared accesses; the thread gives the nodes
+module _ (th : Thread) where
+  abbrev own : Field → Location
+  own = part (th .own)
+
+  abbrev curNode : Field → Location
+  curNode = part (th .cur)
+
+  abbrev tmpNode : Field → Location
+  tmpNode = part (th .tmp)
+
+  abbrev pub sharedAccesses : List (ℕ × List Access)
+  sharedAccesses =
+      (1, []) ∷ (8, []) ∷ (12, []) ∷ (14, []) ∷ (19, [])
+      ∷ (2, write (own Next) ∷ []) ∷ (3, write (own Wait) ∷ []) ∷ (4, write (own Completed) ∷ [])
+      ∷ (5, swap tail ∷ [])
+      ∷ (6, write (curNode Req) ∷ []) ∷ (7, write (curNode Next) ∷ [])
+      ∷ (9, read (curNode Wait) ∷ [])
+      ∷ (10, read (curNode Completed) ∷ [])
+      ∷ (11, read (curNode Ret) ∷ []) ∷ (21, read (curNode Ret) ∷ [])
+      ∷ (13, read (tmpNode Next) ∷ [])
+      ∷ (15, read (tmpNode Next) ∷ [])
+      ∷ (16, read (tmpNode Req) ∷ write (tmpNode Ret) ∷ [])
+      ∷ (17, write (tmpNode Completed) ∷ []) ∷ (18, write (tmpNode Wait) ∷ [])
+      ∷ (20, write (tmpNode Wait) ∷ [])
+      ∷ []
+
+-- and what document 01 says of an entry by its line's number: line 1 begins a call, 5 is the Swap, 9 may spin, a turn begins with 12 and ends with 20,
+-- 16 applies, and a call has returned with 11 or 21; of any other line nothing
+abbrev pub saidEvents : List (ℕ × Event)
+saidEvents =
+    (1, CallBegins) ∷ (5, Swaps) ∷ (9, Spins) ∷ (12, TurnBegins) ∷ (20, TurnEnds) ∷ (16, Applies) ∷ (11, Returns) ∷ (21, Returns) ∷ []
+
+-- what stands beside a line's number in such a table, or `none`
+abbrev pub beside : {A : Type 0} → A → ℕ → List (ℕ × A) → A
+beside none k [] = none
+beside none k (row ∷ rows) = cond (eqb k (row .0)) (row .1) (beside none k rows)

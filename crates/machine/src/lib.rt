@@ -2,8 +2,8 @@
 ghost use mathlib.Core.Path.{_≡_};
 ghost use mathlib.Core.Bool.{false, cond};
 ghost use mathlib.Core.List.{_∷_, map};
-ghost use Rattle.machine.specs.Lines.{Blank, printed, lineOf, lineRun, silent, rowOf, pointed};
-ghost use Rattle.machine.specs.Effect.{isNull, isEmptyReq, isEmptyRet, withReq, withRet, usesEmpty, takesOut, ran, effectOf};
+ghost use Rattle.machine.specs.Lines.{L0, isNull, printed, lineOf, lineRun, rowOf, pointed, eventIn, eventNumber, sameEvent};
+ghost use Rattle.machine.specs.Effect.{isEmptyReq, isEmptyRet, withReq, withRet, usesEmpty, takesOut, executed, effectOf};
 use object::Answer;
 use object::Request;
 
@@ -15,6 +15,13 @@ pub struct NodeId(pub u8);
 
 // Null is no node's number.
 pub const NULL: u8 = 255;
+
+// Room for nodes 0 to n, one for each of 16 threads and the first dummy; for Tail and five fields of each; and for 16 calls of each thread.
+pub const NODES: usize = 17;
+
+pub const LOCATIONS: usize = 1 + 5 * NODES;
+
+pub const CALLS: usize = 256;
 
 // The field req of a node: empty at first.
 pub enum Announced {
@@ -71,11 +78,25 @@ pub enum SharedAccess {
     Swap,
 }
 
-// A line's row of the table: the node that it points to, and its accesses in order.
+// What an entry is: the terms, counts and records of a run go by it, and by no line's number. No entry is two of these.
+pub enum Event {
+    Blank,
+    CallBegins,
+    Swaps,
+    TurnBegins,
+    Applies,
+    TurnEnds,
+    Returns,
+    Spins,
+    Other,
+}
+
+// A line's row of the table: the node that it points to, its accesses in order, and what an entry of it is; a line that spins does so only where it stays.
 pub struct Row {
     pub node: Pointer,
     pub first: SharedAccess,
     pub second: SharedAccess,
+    pub event: Event,
 }
 
 // What a line does: refusal 0 with the thread, the node that it points to and Tail after it, or 14 with all as it was.
@@ -93,126 +114,147 @@ const LINES: [Row; 21] = [
         node: Pointer::Own,
         first: SharedAccess::NoAccess,
         second: SharedAccess::NoAccess,
+        event: Event::CallBegins,
     },
     // 2
     Row {
         node: Pointer::Own,
         first: SharedAccess::Write(Field::Next),
         second: SharedAccess::NoAccess,
+        event: Event::Other,
     },
     // 3
     Row {
         node: Pointer::Own,
         first: SharedAccess::Write(Field::Wait),
         second: SharedAccess::NoAccess,
+        event: Event::Other,
     },
     // 4
     Row {
         node: Pointer::Own,
         first: SharedAccess::Write(Field::Completed),
         second: SharedAccess::NoAccess,
+        event: Event::Other,
     },
     // 5
     Row {
         node: Pointer::Own,
         first: SharedAccess::Swap,
         second: SharedAccess::NoAccess,
+        event: Event::Swaps,
     },
     // 6
     Row {
         node: Pointer::Cur,
         first: SharedAccess::Write(Field::Req),
         second: SharedAccess::NoAccess,
+        event: Event::Other,
     },
     // 7
     Row {
         node: Pointer::Cur,
         first: SharedAccess::Write(Field::Next),
         second: SharedAccess::NoAccess,
+        event: Event::Other,
     },
     // 8
     Row {
         node: Pointer::Own,
         first: SharedAccess::NoAccess,
         second: SharedAccess::NoAccess,
+        event: Event::Other,
     },
     // 9
     Row {
         node: Pointer::Cur,
         first: SharedAccess::Read(Field::Wait),
         second: SharedAccess::NoAccess,
+        event: Event::Spins,
     },
     // 10
     Row {
         node: Pointer::Cur,
         first: SharedAccess::Read(Field::Completed),
         second: SharedAccess::NoAccess,
+        event: Event::Other,
     },
     // 11
     Row {
         node: Pointer::Cur,
         first: SharedAccess::Read(Field::Ret),
         second: SharedAccess::NoAccess,
+        event: Event::Returns,
     },
     // 12
     Row {
         node: Pointer::Own,
         first: SharedAccess::NoAccess,
         second: SharedAccess::NoAccess,
+        event: Event::TurnBegins,
     },
     // 13
     Row {
         node: Pointer::Tmp,
         first: SharedAccess::Read(Field::Next),
         second: SharedAccess::NoAccess,
+        event: Event::Other,
     },
     // 14
     Row {
         node: Pointer::Own,
         first: SharedAccess::NoAccess,
         second: SharedAccess::NoAccess,
+        event: Event::Other,
     },
     // 15
     Row {
         node: Pointer::Tmp,
         first: SharedAccess::Read(Field::Next),
         second: SharedAccess::NoAccess,
+        event: Event::Other,
     },
     // 16
     Row {
         node: Pointer::Tmp,
         first: SharedAccess::Read(Field::Req),
         second: SharedAccess::Write(Field::Ret),
+        event: Event::Applies,
     },
     // 17
     Row {
         node: Pointer::Tmp,
         first: SharedAccess::Write(Field::Completed),
         second: SharedAccess::NoAccess,
+        event: Event::Other,
     },
     // 18
     Row {
         node: Pointer::Tmp,
         first: SharedAccess::Write(Field::Wait),
         second: SharedAccess::NoAccess,
+        event: Event::Other,
     },
     // 19
     Row {
         node: Pointer::Own,
         first: SharedAccess::NoAccess,
         second: SharedAccess::NoAccess,
+        event: Event::Other,
     },
     // 20
     Row {
         node: Pointer::Tmp,
         first: SharedAccess::Write(Field::Wait),
         second: SharedAccess::NoAccess,
+        event: Event::TurnEnds,
     },
     // 21
     Row {
         node: Pointer::Cur,
         first: SharedAccess::Read(Field::Ret),
         second: SharedAccess::NoAccess,
+        event: Event::Returns,
     },
 ];
 
@@ -253,26 +295,27 @@ pub fn line_run(thread: Thread) -> u8
     thread.line
 }
 
-// No access.
-fn silent() -> Row
-    ensures { λ r. ⌜ r ≡ silent ⌝ }
+// A blank has no access.
+fn blank_row() -> Row
+    ensures { λ r. ⌜ r ≡ rowOf L0 ⌝ }
 {
     Row {
         node: Pointer::Own,
         first: SharedAccess::NoAccess,
         second: SharedAccess::NoAccess,
+        event: Event::Blank,
     }
 }
 
-// The row of a line; a blank has no access.
+// The row of a line, or of a blank.
 pub fn row_of(line: u8) -> Row
     ensures { λ r. ⌜ r ≡ rowOf (lineOf line) ⌝ }
 {
     if line == 0 {
-        return silent();
+        return blank_row();
     }
     if line > 21 {
-        return silent();
+        return blank_row();
     }
     let place = (line - 1) as usize;
     LINES[place]
@@ -280,9 +323,9 @@ pub fn row_of(line: u8) -> Row
 
 // The rows of all lines in one array, the blank's at 0, made once for a run.
 pub fn all_rows() -> [Row; 22]
-    ensures { λ r. ⌜ r ≡ map rowOf (Blank ∷ printed) ⌝ }
+    ensures { λ r. ⌜ r ≡ map rowOf (L0 ∷ printed) ⌝ }
 {
-    let mut rows = [silent(); 22];
+    let mut rows = [blank_row(); 22];
     let mut line = 0u8;
     while line < 22 {
         rows[line as usize] = row_of(line);
@@ -300,6 +343,52 @@ pub fn pointed(pointer: Pointer, thread: Thread) -> NodeId
         Pointer::Cur => thread.cur,
         Pointer::Tmp => thread.tmp,
     }
+}
+
+fn spin_or_other(waits: bool) -> Event
+    ensures { λ r. ⌜ r ≡ cond waits Event.Spins Event.Other ⌝ }
+{
+    if waits { Event::Spins } else { Event::Other }
+}
+
+// What an entry of a row is: as the row has it, but a spin only where the line finds wait true.
+pub fn event_in(event: Event, node: Node) -> Event
+    ensures { λ r. ⌜ r ≡ eventIn event node ⌝ }
+{
+    let spin = spin_or_other(node.wait);
+    match event {
+        Event::Blank => Event::Blank,
+        Event::CallBegins => Event::CallBegins,
+        Event::Swaps => Event::Swaps,
+        Event::TurnBegins => Event::TurnBegins,
+        Event::Applies => Event::Applies,
+        Event::TurnEnds => Event::TurnEnds,
+        Event::Returns => Event::Returns,
+        Event::Spins => spin,
+        Event::Other => Event::Other,
+    }
+}
+
+fn event_number(event: Event) -> u8
+    ensures { λ r. ⌜ r ≡ eventNumber event ⌝ }
+{
+    match event {
+        Event::Blank => 0,
+        Event::CallBegins => 1,
+        Event::Swaps => 2,
+        Event::TurnBegins => 3,
+        Event::Applies => 4,
+        Event::TurnEnds => 5,
+        Event::Returns => 6,
+        Event::Spins => 7,
+        Event::Other => 8,
+    }
+}
+
+pub fn same_event(event: Event, other: Event) -> bool
+    ensures { λ r. ⌜ r ≡ sameEvent event other ⌝ }
+{
+    event_number(event) == event_number(other)
 }
 
 // Line 16 uses the req of its node, lines 11 and 21 the ret.
@@ -362,7 +451,7 @@ fn with_ret(node: Node, answer: Answer) -> Node
 }
 
 // Algorithm 1, one printed line.
-fn ran(
+fn executed(
     line: u8,
     thread: Thread,
     node: Node,
@@ -372,7 +461,7 @@ fn ran(
     answer: Answer,
 ) -> Effect
     requires { ⌜ takesOut thread node h line ≡ false ⌝ }
-    ensures { λ r. ⌜ r ≡ ran thread node tail h request answer (lineOf line) ⌝ }
+    ensures { λ r. ⌜ r ≡ executed thread node tail h request answer (lineOf line) ⌝ }
 {
     let null = NodeId(NULL);
     let own = thread.own;
@@ -498,5 +587,5 @@ pub fn run_line(
             tail,
         };
     }
-    ran(line, thread, node, tail, h, request, answer)
+    executed(line, thread, node, tail, h, request, answer)
 }

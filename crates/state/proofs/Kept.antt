@@ -8,9 +8,10 @@ use mathlib.Core.List.{List, [], _∷_}
 use lib.ListN.{length, getD, take, drop, set, length-drop}
 use lib.Seq.{length-take-le, take-set-lt, getD-take, getD-drop, set-getD}
 use Rattle.object.specs.declared.Kind.{Kind}
+use Rattle.object.specs.Each.{every}
 use Rattle.machine.specs.declared.Thread.{Thread}
 use Rattle.state.specs.declared.Slot.{Slot}
-use Rattle.state.specs.Range.{every, slotInRange, rowOfThread, rowsInRange}
+use Rattle.state.specs.Range.{slotInRange, rowOfThread, rowsInRange}
 
 module _ {A : Type 0} (p : A → Bool) where
   -- where all pass, they pass after a place is set exactly if the new one does

@@ -10,11 +10,12 @@ use lib.ListN.{take}
 use borrow.Author.Tests.{leb-true, ltb-true, le-leb, lt-ltb, lt-leb, eqb-true, eqb-false, eq-eqb}
 use Rattle.object.specs.Paper.{within}
 use Rattle.object.specs.Apply.{heldInRange}
+use Rattle.object.specs.Each.{every}
 use Rattle.machine.specs.declared.NodeId.{NodeId}
 use Rattle.machine.specs.declared.Thread.{Thread}
 use Rattle.state.specs.declared.Counts.{Counts}
 use Rattle.state.specs.declared.State.{State}
-use Rattle.state.specs.Range.{every, pointerInRange, lineInRange, threadInRange, nodeInRange, rowsInRange, headInRange, countsInRange, inRange}
+use Rattle.state.specs.Range.{pointerInRange, lineInRange, threadInRange, nodeInRange, rowsInRange, headInRange, countsInRange, inRange}
 
 -- a node, or null
 pub data NodeOrNull (n m : ℕ) : Type 0 where

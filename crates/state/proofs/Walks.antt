@@ -12,9 +12,10 @@ use lib.Seq.{drop-cons, getD-take, take-add, drop-at, length-take-le}
 use lib.Dec.{ltb}
 use borrow.Author.Tests.{not-true, not-false, lt-ltb, ltb-true, ltb-false}
 use Rattle.object.specs.declared.Kind.{Kind}
+use Rattle.object.specs.Each.{every}
 use Rattle.machine.specs.declared.Thread.{Thread}
 use Rattle.state.specs.declared.Slot.{Slot}
-use Rattle.state.specs.Range.{every, slotInRange, rowOfThread, rowsInRange}
+use Rattle.state.specs.Range.{slotInRange, rowOfThread, rowsInRange}
 
 -- a test of a list's elements, each with its place; `from` is the whole test of a list whose first element has the given place
 pub record Walk (A : Type 0) : Type 0 where

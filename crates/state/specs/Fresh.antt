@@ -9,7 +9,8 @@ use Rattle.machine.specs.declared.Announced.the-variants.{NoRequest}
 use Rattle.machine.specs.declared.RetVal.the-variants.{NoAnswer}
 use Rattle.machine.specs.declared.Node.{Node}
 use Rattle.machine.specs.declared.Thread.{Thread}
-use Rattle.machine.specs.Effect.{null}
+use Rattle.machine.specs.Lines.{null}
+use Rattle.machine.specs.Sizes.{mostLocations, mostNodes}
 use Rattle.state.specs.declared.Slot.{Slot}
 use Rattle.state.specs.declared.State.{State}
 
@@ -44,9 +45,9 @@ freshState kind n h capacity counts requests = record {
   capacity = capacity;
   tail = record { 0 = 0 };
   threads = freshThreads 0 counts;
-  nodes = replicate 17 freshNode;
+  nodes = replicate mostNodes freshNode;
   requests = requests;
-  copies = replicate 86 0;
+  copies = replicate mostLocations 0;
   object = freshObject;
   counts = record { records = 0; turns = 0; blanks = 0; spins = 0; remote = 0 };
 }

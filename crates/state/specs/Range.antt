@@ -5,6 +5,7 @@ use mathlib.Core.List.{List, [], _∷_}
 use lib.ListN.{take, drop}
 use lib.Dec.{leb, ltb, eqb}
 use Rattle.object.specs.declared.Kind.{Kind}
+use Rattle.object.specs.Each.{every}
 use Rattle.object.specs.Paper.{within}
 use Rattle.object.specs.Apply.{heldInRange, knows}
 use Rattle.machine.specs.declared.NodeId.{NodeId}
@@ -12,15 +13,10 @@ use Rattle.machine.specs.declared.Announced.{Announced}
 use Rattle.machine.specs.declared.Announced.the-variants.{NoRequest, Asked}
 use Rattle.machine.specs.declared.Node.{Node}
 use Rattle.machine.specs.declared.Thread.{Thread}
-use Rattle.machine.specs.Effect.{isNull}
+use Rattle.machine.specs.Lines.{isNull}
 use Rattle.state.specs.declared.Slot.{Slot}
 use Rattle.state.specs.declared.Counts.{Counts}
 use Rattle.state.specs.declared.State.{State}
-
--- a test that each of a list passes
-abbrev pub every : {A : Type 0} → (A → Bool) → List A → Bool
-every p [] = true
-every p (x ∷ xs) = p x && every p xs
 
 -- a node, or null where that is allowed
 abbrev pub pointerInRange : ℕ → Bool → NodeId → Bool

@@ -2,7 +2,8 @@
 ghost use mathlib.Core.Path.{_≡_};
 ghost use Prim.Native.Nat.{_+_, _≤_};
 ghost use lib.ListN.{take};
-ghost use Rattle.state.specs.Range.{every, pointerInRange, lineInRange, requestsInRange, threadInRange, reqInRange, nodeInRange, slotInRange, rowOfThread, rowsInRange, headInRange, inRange};
+ghost use Rattle.object.specs.Each.{every};
+ghost use Rattle.state.specs.Range.{pointerInRange, lineInRange, requestsInRange, threadInRange, reqInRange, nodeInRange, slotInRange, rowOfThread, rowsInRange, headInRange, inRange};
 use machine::Announced;
 use machine::Node;
 use machine::NodeId;
@@ -33,9 +34,9 @@ pub struct State {
     pub capacity: u8,
     pub tail: NodeId,
     pub threads: [Thread; 16],
-    pub nodes: [Node; 17],
-    pub requests: [Slot; 256],
-    pub copies: [u16; 86],
+    pub nodes: [Node; machine::NODES],
+    pub requests: [Slot; machine::CALLS],
+    pub copies: [u16; machine::LOCATIONS],
     pub object: Object,
     pub counts: Counts,
 }
@@ -114,7 +115,7 @@ fn threads_in_range(n: u8, h: u8, threads: [Thread; 16]) -> bool
     true
 }
 
-fn nodes_in_range(kind: Kind, n: u8, nodes: [Node; 17]) -> bool
+fn nodes_in_range(kind: Kind, n: u8, nodes: [Node; machine::NODES]) -> bool
     requires { ⌜ n ≤ 16 ⌝ }
     ensures { λ r. ⌜ r ≡ every (nodeInRange kind n) (take (n + 1) nodes) ⌝ }
 {
@@ -131,14 +132,14 @@ fn nodes_in_range(kind: Kind, n: u8, nodes: [Node; 17]) -> bool
 }
 
 // The row of one thread.
-fn row_in_range(kind: Kind, requests: [Slot; 256], thread: usize, count: u8) -> bool
+fn row_in_range(kind: Kind, requests: [Slot; machine::CALLS], thread: usize, count: u8) -> bool
     requires { ⌜ thread ≤ 15 ⌝ }
     ensures { λ r. ⌜ r ≡ every (slotInRange kind) (rowOfThread requests thread count) ⌝ }
 {
     let first = 16 * thread;
     let end = first + (count as usize);
     let mut i = first;
-    while (i < end) & (i < 256) {
+    while (i < end) & (i < machine::CALLS) {
         let slot = requests[i];
         let request = slot.request;
         if !object::knows(kind, request) {
@@ -149,7 +150,7 @@ fn row_in_range(kind: Kind, requests: [Slot; 256], thread: usize, count: u8) -> 
     true
 }
 
-fn rows_in_range(kind: Kind, requests: [Slot; 256], n: u8, threads: [Thread; 16]) -> bool
+fn rows_in_range(kind: Kind, requests: [Slot; machine::CALLS], n: u8, threads: [Thread; 16]) -> bool
     requires { ⌜ n ≤ 16 ⌝ }
     ensures { λ r. ⌜ r ≡ rowsInRange kind requests 0 (take n threads) ⌝ }
 {

@@ -17,8 +17,8 @@ use Rattle.machine.specs.declared.Thread.{Thread}
 use Rattle.machine.specs.declared.Effect.{Effect}
 use Rattle.machine.specs.declared.Pointer.{Pointer}
 use Rattle.machine.specs.declared.Pointer.the-variants.{Own, Cur, Tmp}
-use Rattle.machine.specs.Lines.{Line, printed, lineOf, rowOf, pointed, Blank, L1, L2, L3, L4, L5, L6, L7, L8, L9, L10, L11, L12, L13, L14, L15, L16, L17, L18, L19, L20, L21}
-use Rattle.machine.specs.Effect.{null, isNull, withNext, withReq, goes, withCur, withTmp, withServed, keeps, writes, usesEmpty, takesOut, ran}
+use Rattle.machine.specs.Lines.{Line, null, isNull, printed, lineOf, rowOf, pointed, L0, L1, L2, L3, L4, L5, L6, L7, L8, L9, L10, L11, L12, L13, L14, L15, L16, L17, L18, L19, L20, L21}
+use Rattle.machine.specs.Effect.{withNext, withReq, goes, withCur, withTmp, withServed, keeps, writes, usesEmpty, takesOut, executed}
 use Rattle.state.specs.Range.{reqInRange, nodeInRange, threadInRange}
 use Rattle.state.proofs.Kept.{first-at}
 use Rattle.state.proofs.RangeFacts.{NodeOrNull, there, nowhere, ThreadFits, not-null, leb-iff, points-iff, thread-iff}
@@ -59,7 +59,7 @@ module _ (n h : ℕ) (th : Thread) where
   target-at k b f =
       sure-at (rowOf (lineOf k) .node) k
       (rw (number-of k b) at
-      (first-at (λ (l : Line). sure (rowOf l .node) (number l)) 22 (Blank ∷ printed) k refl (omega arith) (omega arith) Blank))
+      (first-at (λ (l : Line). sure (rowOf l .node) (number l)) 22 (L0 ∷ printed) k refl (omega arith) (omega arith) L0))
       f
 
 module _ (n h : ℕ) (kind : Kind) (th : Thread) (x : Node) (tail : NodeId) (request : Request) (answer : Answer)
@@ -113,8 +113,8 @@ module _ (n h : ℕ) (kind : Kind) (th : Thread) (x : Node) (tail : NodeId) (req
 
   -- line by line
   line-leaves : (l : Line) → ThreadFits n h th (standsAt (number l)) → (number l ≡ 1 → th .begun < th .count)
-      → Leaves n h kind th x (number l) (ran th x tail h request answer l)
-  line-leaves Blank f g = kept _ _ refl refl now
+      → Leaves n h kind th x (number l) (executed th x tail h request answer l)
+  line-leaves L0 f g = kept _ _ refl refl now
   line-leaves L1 f g = let room = g refl in kept _ _ refl (simp (lt-leb (th .count) (th .begun))) (search (arith, f, nowhere))
   line-leaves L2 f g = written _ _ _ (node-fits (withNext x null) req-fits (nowhere refl)) refl (search (arith, f))
   line-leaves L3 f g = written _ _ _ x-fits refl (search (arith, f))
@@ -145,10 +145,10 @@ module _ (n h : ℕ) (kind : Kind) (th : Thread) (x : Node) (tail : NodeId) (req
 
   -- the same by the line's number
   pub leaves-at : (k : ℕ) → k ≤ 21 → ThreadFits n h th (standsAt k) → (k ≡ 1 → th .begun < th .count)
-      → Leaves n h kind th x k (ran th x tail h request answer (lineOf k))
+      → Leaves n h kind th x k (executed th x tail h request answer (lineOf k))
   leaves-at k b =
       subst
       (λ (j : ℕ).
       ThreadFits n h th (standsAt j) → (j ≡ 1 → th .begun < th .count)
-      → Leaves n h kind th x j (ran th x tail h request answer (lineOf k)))
+      → Leaves n h kind th x j (executed th x tail h request answer (lineOf k)))
       (number-of k b) (line-leaves (lineOf k))

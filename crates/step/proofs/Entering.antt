@@ -11,11 +11,13 @@ use Rattle.object.specs.declared.Object.{Object}
 use Rattle.object.specs.declared.Applied.{Applied}
 use Rattle.machine.specs.declared.ThreadId.{ThreadId}
 use Rattle.machine.specs.declared.NodeId.{NodeId}
+use Rattle.machine.specs.declared.Event.{Event}
 use Rattle.machine.specs.declared.Row.{Row}
 use Rattle.machine.specs.declared.Effect.{Effect}
-use Rattle.machine.specs.Lines.{lineOf, rowOf, pointed, accessesOf}
+use Rattle.machine.specs.Lines.{lineOf, rowOf, pointed, eventIn, accessesOf}
 use Rattle.machine.specs.Effect.{takesOut, effectOf}
 use Rattle.machine.proofs.Refusal.{goes-through, refused-out}
+use Rattle.machine.specs.Sizes.{mostCalls}
 use Rattle.copies.specs.Remote.{referred}
 use Rattle.state.specs.declared.Counts.{Counts}
 use Rattle.state.specs.declared.State.{State}
@@ -23,7 +25,7 @@ use Rattle.state.specs.Range.{inRange, countsInRange}
 use Rattle.state.specs.Shape.{Shaped}
 use Rattle.state.proofs.RangeFacts.{state-fits, counts-iff}
 use Rattle.step.specs.declared.Stepped.{Stepped}
-use Rattle.step.specs.Entry.{zeroNode, zeroSlot, appliedAt, moreOf, plus, wrapped, named, line, row, target, node, request, applied, effect, countsAfter, entered}
+use Rattle.step.specs.Entry.{zeroNode, zeroSlot, appliedAt, moreOf, plus, wrapped, named, line, row, target, node, event, request, applied, effect, countsAfter, entered}
 use Rattle.step.specs.Step.{refused, outcomeOf, stepOf}
 use Rattle.step.proofs.Outcome.{begun-few, goes-through-exactly}
 
@@ -34,20 +36,21 @@ fits-wrapped c e =
     rw (mod-eq-of-lt (f .records), mod-eq-of-lt (f .turns), mod-eq-of-lt (f .blanks), mod-eq-of-lt (f .spins), mod-eq-of-lt (f .remote)) refl
 
 -- the place of a call is one of the 256
-pub place-few : (s : State) (t : ThreadId) {p : ℕ} → Shaped s → inRange s ≡ true → t .0 < s .n → p ≡ 16 * t .0 + (named s t .begun - 1) → p < 256
+pub place-few : (s : State) (t : ThreadId) {p : ℕ} → Shaped s → inRange s ≡ true → t .0 < s .n → p ≡ 16 * t .0 + (named s t .begun - 1) → p < mostCalls
 place-few s t shape fits below e = omega (arith, e, begun-few s t shape fits below, state-fits s fits .small)
 
 -- what the calls for an entry answered, in order
-pub record Called (s : State) (t : ThreadId) (k : ℕ) (r : Row) (m : NodeId) (p : ℕ) (ob : Applied) (e : Effect) (remote : ℕ) (copies : List ℕ) (more : Counts) : Type 0 where
+pub record Called (s : State) (t : ThreadId) (k : ℕ) (r : Row) (m : NodeId) (ev : Event) (p : ℕ) (ob : Applied) (e : Effect) (remote : ℕ) (copies : List ℕ) (more : Counts) : Type 0 where
   pub line-run : k ≡ line s t
   pub row-of : r ≡ rowOf (lineOf k)
   pub pointed-to : m ≡ pointed (r .node) (named s t)
+  pub event-in : ev ≡ eventIn (r .event) (getD (s .nodes) (m .0) zeroNode)
   pub place : p ≡ 16 * t .0 + (named s t .begun - 1)
-  pub applied-at : ob ≡ appliedAt k (s .kind) (s .capacity) (s .object) (getD (s .nodes) (m .0) zeroNode .req)
+  pub applied-at : ob ≡ appliedAt ev (s .kind) (s .capacity) (s .object) (getD (s .nodes) (m .0) zeroNode .req)
   pub effect-of : e ≡ effectOf (named s t) (getD (s .nodes) (m .0) zeroNode) (s .tail) (s .h) (getD (s .requests) p zeroSlot .request) (ob .answer)
   pub remote-of : remote ≡ referred (s .n) (t .0) (s .copies) (accessesOf r m) .remote
   pub copies-of : copies ≡ referred (s .n) (t .0) (s .copies) (accessesOf r m) .copies
-  pub more-of : more ≡ moreOf k (getD (s .nodes) (m .0) zeroNode .wait) remote
+  pub more-of : more ≡ moreOf ev remote
 
 -- the state that is made of the answers
 abbrev pub made : State → ThreadId → NodeId → Object → Effect → List ℕ → Counts → State
@@ -83,22 +86,25 @@ module _ (s : State) (t : ThreadId) (shape : Shaped s) (fits : inRange s ≡ tru
       → outcomeOf s t ≡ cond (not out && small) (record { refusal = 0; state = entered s t }) (refused 14 s)
   by-outcome e f = rw (goes-through-exactly s t shape fits below, e, f) refl
 
-  module _ {k : ℕ} {r : Row} {m : NodeId} {p : ℕ} {ob : Applied} {e : Effect} {remote : ℕ} {copies : List ℕ} {more : Counts}
-      (called : Called s t k r m p ob e remote copies more) where
+  module _ {k : ℕ} {r : Row} {m : NodeId} {ev : Event} {p : ℕ} {ob : Applied} {e : Effect} {remote : ℕ} {copies : List ℕ} {more : Counts}
+      (called : Called s t k r m ev p ob e remote copies more) where
     pub is-row : r ≡ row s t
     is-row = rw (called .line-run) at (called .row-of)
 
     pub at-target : m ≡ target s t
     at-target = is-target s t (called .line-run) (called .row-of) (called .pointed-to)
 
+    pub is-event : ev ≡ event s t
+    is-event = rw (is-row, at-target) at (called .event-in)
+
     pub is-applied : ob ≡ applied s t
-    is-applied = rw (called .line-run, at-target) at (called .applied-at)
+    is-applied = rw (is-event, at-target) at (called .applied-at)
 
     is-answer : e ≡ answer
     is-answer = rw (at-target, called .place, is-applied) at (called .effect-of)
 
     pub sums : plus (s .counts) more ≡ countsAfter s t
-    sums = rw (called .more-of, called .remote-of, called .line-run, is-row, at-target) refl
+    sums = rw (called .more-of, called .remote-of, is-event, is-row, at-target) refl
 
     -- the line is refused
     pub line-refused : (e .refusal ≡ 0 → ⊥) → refused 14 s ≡ outcomeOf s t

@@ -8,7 +8,8 @@ use lib.Dec.{eqb, eqb·suc-zero}
 use lib.ListN.{length, getD}
 use borrow.Author.Tests.{eqb-true, leb-true, lt-leb}
 use Rattle.object.specs.Each.{Each}
-use Rattle.machine.specs.Lines.{Line, printed, lineOf, Blank, L1, L2, L3, L4, L5, L6, L7, L8, L9, L10, L11, L12, L13, L14, L15, L16, L17, L18, L19, L20, L21}
+use Rattle.object.proofs.Each.{each-getD-or}
+use Rattle.machine.specs.Lines.{Line, printed, lineOf, L0, L1, L2, L3, L4, L5, L6, L7, L8, L9, L10, L11, L12, L13, L14, L15, L16, L17, L18, L19, L20, L21}
 use Rattle.state.specs.Range.{lineInRange}
 use Rattle.step.specs.Numbers.{number, standsAt}
 
@@ -17,23 +18,17 @@ abbrev Numbered : ℕ → List Line → Type 0
 Numbered i [] = Unit
 Numbered i (l ∷ ls) = (number l ≡ i) × Numbered (suc i) ls
 
-number-at : (i : ℕ) (ls : List Line) (k : ℕ) → Numbered i ls → k < length ls → number (getD ls k Blank) ≡ i + k
+number-at : (i : ℕ) (ls : List Line) (k : ℕ) → Numbered i ls → k < length ls → number (getD ls k L0) ≡ i + k
 number-at i [] k e h = absurd (omega arith)
 number-at i (l ∷ ls) zero e h = omega arith
 number-at i (l ∷ ls) (suc k) e h = omega (arith, number-at (suc i) ls k (e .1) (omega arith))
 
 pub number-of : (k : ℕ) → k ≤ 21 → number (lineOf k) ≡ k
-number-of k h = omega (arith, number-at 0 (Blank ∷ printed) k (omega arith) (omega arith))
-
--- a place past the list stands for a blank
-each-or-blank : (P : Line → Type 0) (ls : List Line) (k : ℕ) → P Blank → Each P ls → P (getD ls k Blank)
-each-or-blank P [] k p each = p
-each-or-blank P (l ∷ ls) zero p each = each .0
-each-or-blank P (l ∷ ls) (suc k) p each = each-or-blank P ls k p (each .1)
+number-of k h = omega (arith, number-at 0 (L0 ∷ printed) k (omega arith) (omega arith))
 
 -- a line is the one of its number
 pub line-at : (l : Line) → lineOf (number l) ≡ l
-line-at Blank = refl
+line-at L0 = refl
 line-at L1 = refl
 line-at L2 = refl
 line-at L3 = refl
@@ -57,8 +52,8 @@ line-at L20 = refl
 line-at L21 = refl
 
 -- what holds of a blank and of each printed line holds of every line
-pub each-line : (P : Line → Type 0) → Each P (Blank ∷ printed) → (l : Line) → P l
-each-line P each l = subst P (line-at l) (each-or-blank P (Blank ∷ printed) (number l) (each .0) each)
+pub each-line : (P : Line → Type 0) → Each P (L0 ∷ printed) → (l : Line) → P l
+each-line P each l = subst P (line-at l) (each-getD-or P (L0 ∷ printed) (number l) L0 each (each .0))
 
 pub number-most : (l : Line) → number l ≤ 21
 number-most = each-line (λ (l : Line). number l ≤ 21) (omega arith)
@@ -76,16 +71,16 @@ by-last {P} k last answered leaves = by-test (eqb k 11) refl last
     by-test false e z = leaves (eqb-true k 21 z)
 
 -- a thread that stands at a line, with requests left or not, runs line k
-pub record Runs (stand : ℕ) (left : Bool) (k : ℕ) : Type 0 where
+pub record RunsNext (stand : ℕ) (left : Bool) (k : ℕ) : Type 0 where
   pub stands : stand ≡ standsAt k
   pub printed : k ≤ 21
   pub begins : k ≡ 1 → left ≡ true
 
-pub runs : (line : ℕ) (left : Bool) → lineInRange line ≡ true → Runs line left (cond (eqb line 0) (cond left 1 0) line)
-runs zero true e = record { stands = refl; printed = omega arith; begins = λ _. refl }
-runs zero false e = record { stands = refl; printed = omega arith; begins = λ h. absurd (omega arith) }
-runs (suc zero) left e = absurd (false≢true e)
-runs (suc (suc k)) left e =
+pub runs-next : (line : ℕ) (left : Bool) → lineInRange line ≡ true → RunsNext line left (cond (eqb line 0) (cond left 1 0) line)
+runs-next zero true e = record { stands = refl; printed = omega arith; begins = λ _. refl }
+runs-next zero false e = record { stands = refl; printed = omega arith; begins = λ h. absurd (omega arith) }
+runs-next (suc zero) left e = absurd (false≢true e)
+runs-next (suc (suc k)) left e =
     let p = simp (eqb·suc-zero, and-eq-true-iff) at e in
     rw eqb·suc-zero (record {
       stands = rw (lt-leb (suc (suc k)) 1 (omega arith));

@@ -3,7 +3,7 @@ use Prim.Native.Nat.{ℕ, _+_, _-_, _≤_, _<_}
 use native.Mathlib.Omega.{arith}
 use mathlib.Core.Path.{_≡_, subst, ap, _∙_}
 use mathlib.Core.Bool.{Bool, true, false, cond, not, _&&_, and-true, and-assoc, and-eq-true-iff}
-use lib.Dec.{ltb, eqb}
+use lib.Dec.{ltb}
 use lib.ListN.{length, take}
 use lib.Ieee.Bits.{is-true}
 use borrow.Author.Tests.{ltb-true}
@@ -14,30 +14,34 @@ use Rattle.object.specs.declared.Answer.the-variants.{Empty}
 use Rattle.object.specs.Paper.{within}
 use Rattle.object.specs.Apply.{knows, heldInRange, answered, applyOf}
 use Rattle.object.proofs.Plainly.{applies-plainly}
+use Rattle.object.specs.Each.{every}
 use Rattle.machine.specs.declared.ThreadId.{ThreadId}
 use Rattle.machine.specs.declared.Announced.{Announced}
 use Rattle.machine.specs.declared.Announced.the-variants.{NoRequest, Asked}
+use Rattle.machine.specs.declared.Event.{Event}
+use Rattle.machine.specs.declared.Event.the-variants.{Applies}
+use Rattle.machine.specs.Lines.{sameEvent}
 use Rattle.machine.specs.Effect.{usesEmpty, takesOut}
 use Rattle.state.specs.declared.State.{State}
-use Rattle.state.specs.Range.{every, headInRange, rowsInRange, inRange, threadInRange, nodeInRange, countsInRange}
+use Rattle.state.specs.Range.{headInRange, rowsInRange, inRange, threadInRange, nodeInRange, countsInRange}
 use Rattle.state.specs.Shape.{Shaped}
 use Rattle.state.proofs.Kept.{first-set, first-at, rows-stay, known-at}
 use Rattle.state.proofs.RangeFacts.{ThreadFits, thread-iff, points-iff, StateFits, state-fits}
-use Rattle.step.specs.Entry.{zeroThread, zeroNode, zeroSlot, servedBy, appliedAt, named, line, target, node, request, applied, effect, countsAfter, entered}
+use Rattle.step.specs.Entry.{zeroThread, zeroNode, zeroSlot, servedBy, appliedAt, named, line, target, node, event, request, applied, effect, countsAfter, entered}
 use Rattle.step.specs.Step.{goesThrough}
 use Rattle.step.specs.Numbers.{standsAt}
-use Rattle.step.proofs.Numbers.{Runs, runs}
+use Rattle.step.proofs.Numbers.{RunsNext, runs-next}
 use Rattle.step.proofs.EachLine.{Leaves, leaves-at, target-at}
 
 -- what holds of an object, and of it after each request, holds after an entry, whether or not a req is served
-pub object-keeps : (P : Object → Type 0) (line : ℕ) (kind : Kind) (capacity : ℕ) (ob : Object) (req : Announced) → P ob
-    → ((request : Request) → P (applyOf kind capacity ob request .object)) → P (appliedAt line kind capacity ob req .object)
-object-keeps P line kind capacity ob req before after = by-line (eqb line 16) req
+pub object-keeps : (P : Object → Type 0) (event : Event) (kind : Kind) (capacity : ℕ) (ob : Object) (req : Announced) → P ob
+    → ((request : Request) → P (applyOf kind capacity ob request .object)) → P (appliedAt event kind capacity ob req .object)
+object-keeps P event kind capacity ob req before after = by-test (sameEvent event Applies) req
   where
-    by-line : (serves : Bool) (req : Announced) → P (cond serves (servedBy kind capacity ob req) (answered Empty ob) .object)
-    by-line false req = before
-    by-line true NoRequest = before
-    by-line true (Asked request) = after request
+    by-test : (serves : Bool) (req : Announced) → P (cond serves (servedBy kind capacity ob req) (answered Empty ob) .object)
+    by-test false req = before
+    by-test true NoRequest = before
+    by-test true (Asked request) = after request
 
 -- what the parts of a state's range come to where all hold but the threads and the counts
 together : {a b d e v : Bool} (u c z : Bool) → a ≡ true → b ≡ true → d ≡ true → e ≡ true → (not u && c) ≡ v
@@ -61,8 +65,8 @@ module _ (s : State) (t : ThreadId) (shaped : Shaped s) (range : inRange s ≡ t
   pub begun-few : named s t .begun ≤ 16
   begun-few = omega (arith, thread-fits .few, thread-fits .counted)
 
-  pub runs-line : Runs (named s t .line) (ltb (named s t .begun) (named s t .count)) (line s t)
-  runs-line = runs (named s t .line) (ltb (named s t .begun) (named s t .count)) (thread-fits .a-line)
+  pub runs-line : RunsNext (named s t .line) (ltb (named s t .begun) (named s t .count)) (line s t)
+  runs-line = runs-next (named s t .line) (ltb (named s t .begun) (named s t .count)) (thread-fits .a-line)
 
   standing : ThreadFits (s .n) (s .h) (named s t) (standsAt (line s t))
   standing = subst (ThreadFits (s .n) (s .h) (named s t)) (runs-line .stands) thread-fits
@@ -82,7 +86,7 @@ module _ (s : State) (t : ThreadId) (shaped : Shaped s) (range : inRange s ≡ t
       first-at (nodeInRange (s .kind) (s .n)) (s .n + 1) (s .nodes) (target s t .0) (facts .nodes)
       (omega (arith, target-in-range)) (omega (arith, facts .small, shaped .nodes)) zeroNode
 
-  leaves : Leaves (s .n) (s .h) (s .kind) (named s t) (node s t) (line s t) (effect s t)
+  pub leaves : Leaves (s .n) (s .h) (s .kind) (named s t) (node s t) (line s t) (effect s t)
   leaves =
       leaves-at (s .n) (s .h) (s .kind) (named s t) (node s t) (s .tail) (request s t) (applied s t .answer)
       (facts .small) (facts .tail) node-fits
@@ -92,7 +96,7 @@ module _ (s : State) (t : ThreadId) (shaped : Shaped s) (range : inRange s ≡ t
   head-stays =
       and-eq-true-iff (within 1 (s .n) 16 && within 1 (s .h) 255) (heldInRange (s .kind) (s .capacity) (applied s t .object .held)) .1 (
         facts .limits,
-        object-keeps (λ ob. heldInRange (s .kind) (s .capacity) (ob .held) ≡ true) (line s t) (s .kind) (s .capacity) (s .object) (node s t .req) (facts .held)
+        object-keeps (λ ob. heldInRange (s .kind) (s .capacity) (ob .held) ≡ true) (event s t) (s .kind) (s .capacity) (s .object) (node s t .req) (facts .held)
             (λ request. is-true _ (applies-plainly (s .kind) (s .capacity) (s .object) request (shaped .items) .stays (rw (facts .held) tt))),
       )
 

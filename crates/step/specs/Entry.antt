@@ -1,9 +1,8 @@
 -- What one schedule entry does to a state: the thread that it names executes one line. Document 01, 'One entry, one line'.
 use Prim.Native.Nat.{ℕ, _+_, _-_, _*_, _%_, _^_}
-use mathlib.Core.Bool.{Bool, false, cond, _&&_}
+use mathlib.Core.Bool.{Bool, false, cond}
 use mathlib.Core.List.{List}
 use lib.ListN.{getD, set}
-use lib.Dec.{eqb}
 use Rattle.object.specs.declared.Kind.{Kind}
 use Rattle.object.specs.declared.Request.{Request}
 use Rattle.object.specs.declared.Request.the-variants.{Put}
@@ -18,10 +17,12 @@ use Rattle.machine.specs.declared.Announced.the-variants.{NoRequest, Asked}
 use Rattle.machine.specs.declared.RetVal.the-variants.{NoAnswer}
 use Rattle.machine.specs.declared.Node.{Node}
 use Rattle.machine.specs.declared.Thread.{Thread}
+use Rattle.machine.specs.declared.Event.{Event}
+use Rattle.machine.specs.declared.Event.the-variants.{Blank, Swaps, TurnBegins, Applies, Spins}
 use Rattle.machine.specs.declared.Row.{Row}
 use Rattle.machine.specs.declared.Effect.{Effect}
-use Rattle.machine.specs.Lines.{Access, lineOf, lineRun, rowOf, pointed, accessesOf}
-use Rattle.machine.specs.Effect.{ran}
+use Rattle.machine.specs.Lines.{Access, lineOf, lineRun, rowOf, pointed, eventIn, sameEvent, accessesOf}
+use Rattle.machine.specs.Effect.{executed}
 use Rattle.copies.specs.Remote.{Referred, referred}
 use Rattle.state.specs.declared.Slot.{Slot}
 use Rattle.state.specs.declared.Counts.{Counts}
@@ -55,20 +56,21 @@ abbrev pub servedBy : Kind → ℕ → Object → Announced → Applied
 servedBy kind capacity ob NoRequest = refusedWith 14 ob
 servedBy kind capacity ob (Asked request) = applyOf kind capacity ob request
 
--- line 16 alone applies; in a state in range its req is known to the object, or empty, which `usesEmpty` judges
-abbrev pub appliedAt : ℕ → Kind → ℕ → Object → Announced → Applied
-appliedAt line kind capacity ob req = cond (eqb line 16) (servedBy kind capacity ob req) (answered Empty ob)
+-- an entry that applies does so to the node's req, which in a state in range the object knows, or which is empty, and that `usesEmpty` judges. Any other entry
+-- leaves the object, and its line looks at no answer
+abbrev pub appliedAt : Event → Kind → ℕ → Object → Announced → Applied
+appliedAt event kind capacity ob req = cond (sameEvent event Applies) (servedBy kind capacity ob req) (answered Empty ob)
 
 abbrev pub oneIf : Bool → ℕ
 oneIf test = cond test 1 0
 
--- what an entry adds to the counts: a record by a Swap, a turn by line 12, a blank, a spin where line 9 stays, and its remote references
-abbrev pub moreOf : ℕ → Bool → ℕ → Counts
-moreOf line waits remote = record {
-  records = oneIf (eqb line 5);
-  turns = oneIf (eqb line 12);
-  blanks = oneIf (eqb line 0);
-  spins = oneIf (eqb line 9 && waits);
+-- what an entry adds to the counts: a record by a Swap, a turn that begins, a blank, a spin, and its remote references
+abbrev pub moreOf : Event → ℕ → Counts
+moreOf event remote = record {
+  records = oneIf (sameEvent event Swaps);
+  turns = oneIf (sameEvent event TurnBegins);
+  blanks = oneIf (sameEvent event Blank);
+  spins = oneIf (sameEvent event Spins);
   remote = remote;
 }
 
@@ -110,16 +112,20 @@ module _ (s : State) (t : ThreadId) where
   abbrev pub node : Node
   node = getD (s .nodes) (target .0) zeroNode
 
+  -- what the entry is
+  abbrev pub event : Event
+  event = eventIn (row .event) node
+
   -- the request of the thread's call, the last begun of its row
   abbrev pub request : Request
   request = getD (s .requests) (16 * t .0 + (named .begun - 1)) zeroSlot .request
 
   abbrev pub applied : Applied
-  applied = appliedAt line (s .kind) (s .capacity) (s .object) (node .req)
+  applied = appliedAt event (s .kind) (s .capacity) (s .object) (node .req)
 
   -- what the line does, by Algorithm 1
   abbrev pub effect : Effect
-  effect = ran named node (s .tail) (s .h) request (applied .answer) (lineOf line)
+  effect = executed named node (s .tail) (s .h) request (applied .answer) (lineOf line)
 
   -- the accesses that it makes, in order
   abbrev pub accesses : List Access
@@ -130,7 +136,7 @@ module _ (s : State) (t : ThreadId) where
   references = referred (s .n) (t .0) (s .copies) accesses
 
   abbrev pub countsAfter : Counts
-  countsAfter = plus (s .counts) (moreOf line (node .wait) (references .remote))
+  countsAfter = plus (s .counts) (moreOf event (references .remote))
 
   -- the state after the entry
   abbrev pub entered : State

@@ -7,6 +7,7 @@ ghost use Rattle.state.specs.Range.{inRange, countsInRange};
 ghost use Rattle.step.specs.Entry.{servedBy, appliedAt, oneIf, moreOf, plus, wrapped};
 ghost use Rattle.step.specs.Step.{refused, outcomeOf, stepOf};
 use machine::Announced;
+use machine::Event;
 use machine::ThreadId;
 use object::Answer;
 use object::Applied;
@@ -44,11 +45,11 @@ pub fn served_by(kind: Kind, capacity: u8, object: Object, req: Announced) -> Ap
     }
 }
 
-// Line 16 alone applies.
-fn applied_at(line: u8, kind: Kind, capacity: u8, object: Object, req: Announced) -> Applied
-    ensures { λ r. ⌜ r ≡ appliedAt line kind capacity object req ⌝ }
+// An entry that applies serves the node's req; any other leaves the object.
+fn applied_at(event: Event, kind: Kind, capacity: u8, object: Object, req: Announced) -> Applied
+    ensures { λ r. ⌜ r ≡ appliedAt event kind capacity object req ⌝ }
 {
-    if line == 16 {
+    if machine::same_event(event, Event::Applies) {
         return served_by(kind, capacity, object, req);
     }
     Applied {
@@ -76,14 +77,14 @@ fn one_if(test: bool) -> u32
 }
 
 // What an entry adds to the counts.
-pub fn more_of(line: u8, waits: bool, remote: u8) -> Counts
-    ensures { λ r. ⌜ r ≡ moreOf line waits remote ⌝ }
+pub fn more_of(event: Event, remote: u8) -> Counts
+    ensures { λ r. ⌜ r ≡ moreOf event remote ⌝ }
 {
     Counts {
-        records: one_if(line == 5),
-        turns: one_if(line == 12),
-        blanks: one_if(line == 0),
-        spins: one_if((line == 9) & waits),
+        records: one_if(machine::same_event(event, Event::Swaps)),
+        turns: one_if(machine::same_event(event, Event::TurnBegins)),
+        blanks: one_if(machine::same_event(event, Event::Blank)),
+        spins: one_if(machine::same_event(event, Event::Spins)),
         remote: remote as u32,
     }
 }
@@ -137,16 +138,18 @@ fn enter(state: State, thread: ThreadId) -> Stepped
     let target = machine::pointed(pointer, named);
     let m = target.0 as usize;
     let node = state.nodes[m];
+    let row_event = row.event;
+    let event = machine::event_in(row_event, node);
     let req = node.req;
     let place = call_place(thread, named.begun);
     let slot = state.requests[place];
     let request = slot.request;
-    let applied = applied_at(line, kind, state.capacity, object, req);
+    let applied = applied_at(event, kind, state.capacity, object, req);
     let answer = applied.answer;
     let effect = machine::run_line(named, node, tail, state.h, request, answer);
     let mut after = state;
     let remote = copies::refer_all(&mut after.copies, row, target, thread, n);
-    let more = more_of(line, node.wait, remote);
+    let more = more_of(event, remote);
     if effect.refusal != 0 {
         return refused(14, state);
     }

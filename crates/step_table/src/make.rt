@@ -121,11 +121,11 @@ fn slot_with(kind: Kind, slot: Slot, word: Word) -> Slot {
 }
 
 // The copies of the first three threads go through their eight choices from place to place, those of some other threads are always there.
-fn choices(first: u8) -> [u16; 86] {
-    let mut copies = [0; 86];
+fn choices(first: u8) -> [u16; machine::LOCATIONS] {
+    let mut copies = [0; machine::LOCATIONS];
     let mut low = first;
     let mut i = 0;
-    while i < 86 {
+    while i < machine::LOCATIONS {
         copies[i] = bits(0xA5, (low % 8) | 0xA8);
         low = std::num::wrapping_add_u8(low, 1);
         i += 1;
@@ -133,11 +133,11 @@ fn choices(first: u8) -> [u16; 86] {
     copies
 }
 
-fn copies_with(copies: [u16; 86], word: Word) -> [u16; 86] {
+fn copies_with(copies: [u16; machine::LOCATIONS], word: Word) -> [u16; machine::LOCATIONS] {
     let field = word.field;
     match field {
         b'z' => choices(word.value),
-        b'W' => [bits(word.at, word.value); 86],
+        b'W' => [bits(word.at, word.value); machine::LOCATIONS],
         _ => copies,
     }
 }
@@ -173,10 +173,10 @@ pub(crate) fn set(state: State, word: Word) -> State {
     if at < 16 {
         s.threads[at] = thread_with(s.threads[at], word);
     }
-    if at < 17 {
+    if at < machine::NODES {
         s.nodes[at] = node_with(kind, s.nodes[at], word);
     }
-    if at < 256 {
+    if at < machine::CALLS {
         s.requests[at] = slot_with(kind, s.requests[at], word);
     }
     let old_copies = s.copies;
@@ -225,9 +225,9 @@ fn node(req: Announced, ret: RetVal, flag: bool, next: u8) -> Node {
 fn whole(kind: Kind, n: u8, thread: Thread, node: Node, request: Request) -> State {
     let slot = Slot { request };
     let threads = [thread; 16];
-    let nodes = [node; 17];
-    let requests = [slot; 256];
-    let copies = [0; 86];
+    let nodes = [node; machine::NODES];
+    let requests = [slot; machine::CALLS];
+    let copies = [0; machine::LOCATIONS];
     let object = object::fresh();
     let counts = Counts {
         records: 0,

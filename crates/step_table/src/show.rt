@@ -172,7 +172,7 @@ fn threads(a: State, b: State) {
 
 fn nodes(a: State, b: State) {
     let mut i = 0;
-    while i < 17 {
+    while i < machine::NODES {
         node(i, a.nodes[i], b.nodes[i]);
         i += 1;
     }
@@ -180,7 +180,7 @@ fn nodes(a: State, b: State) {
 
 fn requests(a: State, b: State) {
     let mut i = 0;
-    while i < 256 {
+    while i < machine::CALLS {
         slot(i, a.requests[i], b.requests[i]);
         i += 1;
     }
@@ -188,7 +188,7 @@ fn requests(a: State, b: State) {
 
 fn copies(a: State, b: State) {
     let mut i = 0;
-    while i < 86 {
+    while i < machine::LOCATIONS {
         element(b"copies", i, b"", wide16(a.copies[i]), wide16(b.copies[i]));
         i += 1;
     }

@@ -9,30 +9,30 @@ use lib.ListN.{replicate, set, List·getD-map}
 use lib.Seq.{paste, paste-zero, paste-suc}
 use borrow.Author.Needs.{needs}
 use Rattle.machine.specs.declared.Row.{Row}
-use Rattle.machine.specs.Lines.{Blank, printed, lineOf, silent, rowOf}
+use Rattle.machine.specs.Lines.{L0, printed, lineOf, rowOf}
 use Rattle.machine.proofs.all_rows.Statement.{statement}
 use Rattle.machine.proofs.all_rows.Tie as tie
 
 abbrev all : List Row
-all = map rowOf (Blank ∷ printed)
+all = map rowOf (L0 ∷ printed)
 
-pass : (line : ℕ) → line < 22 → set (paste (replicate 22 silent) 0 all line) line (rowOf (lineOf line)) ≡ paste (replicate 22 silent) 0 all (line + 1)
+pass : (line : ℕ) → line < 22 → set (paste (replicate 22 (rowOf L0)) 0 all line) line (rowOf (lineOf line)) ≡ paste (replicate 22 (rowOf L0)) 0 all (line + 1)
 pass line h =
-    subst (λ (k : ℕ). set (paste (replicate 22 silent) 0 all line) k (rowOf (lineOf line)) ≡ paste (replicate 22 silent) 0 all (line + 1)) (zero-add line)
-    (rw (← List·getD-map rowOf (Blank ∷ printed) line Blank, add-one) (paste-suc (replicate 22 silent) 0 all line silent (omega arith) h))
+    subst (λ (k : ℕ). set (paste (replicate 22 (rowOf L0)) 0 all line) k (rowOf (lineOf line)) ≡ paste (replicate 22 (rowOf L0)) 0 all (line + 1)) (zero-add line)
+    (rw (← List·getD-map rowOf (L0 ∷ printed) line L0, add-one) (paste-suc (replicate 22 (rowOf L0)) 0 all line (rowOf L0) (omega arith) h))
 
 -- the rows of the lines so far stand in the array
 abbrev Inv-loop : tie.InvT-loop
-Inv-loop rows₀ line₀ rows line = (line ≤ 22) × (rows ≡ paste (replicate 22 silent) 0 all line)
+Inv-loop rows₀ line₀ rows line = (line ≤ 22) × (rows ≡ paste (replicate 22 (rowOf L0)) 0 all line)
 
 abbrev μ-loop : tie.MeasureT-loop
 μ-loop rows₀ line₀ rows line = 22 - line
 
-silent-requires : tie.Need-silent-requires Inv-loop μ-loop
-silent-requires c κs = search needs
+blank-row-requires : tie.Need-blank-row-requires Inv-loop μ-loop
+blank-row-requires c κs = search needs
 
 loop-holds : tie.Need-loop-holds Inv-loop μ-loop
-loop-holds c = (omega arith, ap (replicate 22) (c .silent .ensures) ∙ paste-zero (replicate 22 silent) 0 all)
+loop-holds c = (omega arith, ap (replicate 22) (c .blank-row .ensures) ∙ paste-zero (replicate 22 (rowOf L0)) 0 all)
 
 row-of-requires : tie.Need-row-of-requires Inv-loop μ-loop
 row-of-requires c κs = search needs
@@ -61,7 +61,7 @@ returns : tie.Need-returns Inv-loop μ-loop
 returns c =
     let at = c .before .loop in
     let done : at .line ≡ 22 = omega (arith, at .inv .0, c .loop-test .left) in
-    at .inv .1 ∙ ap (λ (k : ℕ). paste (replicate 22 silent) 0 all k) done
+    at .inv .1 ∙ ap (λ (k : ℕ). paste (replicate 22 (rowOf L0)) 0 all k) done
 
 pub all-rows-spec : {M : Type 1} → statement M
 all-rows-spec =
@@ -69,7 +69,7 @@ all-rows-spec =
     (tie.spec
     Inv-loop
     μ-loop
-    silent-requires
+    blank-row-requires
     loop-holds
     row-of-requires
     cast-rows

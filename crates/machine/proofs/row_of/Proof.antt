@@ -6,17 +6,17 @@ use Rattle.machine.proofs.Table.{row-at, no-line-above}
 use Rattle.machine.proofs.row_of.Statement.{statement}
 use Rattle.machine.proofs.row_of.Tie as tie
 
-silent-requires : tie.Need-silent-requires
-silent-requires c κs = search needs
+blank-row-requires : tie.Need-blank-row-requires
+blank-row-requires c κs = search needs
 
 returns : tie.Need-returns
 returns c = search needs
 
-silent-requires-2 : tie.Need-silent-requires-2
-silent-requires-2 c κs = search needs
+blank-row-requires-2 : tie.Need-blank-row-requires-2
+blank-row-requires-2 c κs = search needs
 
 returns-2 : tie.Need-returns-2
-returns-2 c = c .silent2 .ensures ∙ ap rowOf (no-line-above _ (c .before .if2 .taken))
+returns-2 c = c .blank-row2 .ensures ∙ ap rowOf (no-line-above _ (c .before .if2 .taken))
 
 sub-place : tie.Need-sub-place
 sub-place c = search needs
@@ -37,9 +37,9 @@ pub row-of-spec : {M : Type 1} → statement M
 row-of-spec =
     tie.close
     (tie.spec
-    silent-requires
+    blank-row-requires
     returns
-    silent-requires-2
+    blank-row-requires-2
     returns-2
     sub-place
     cast-place

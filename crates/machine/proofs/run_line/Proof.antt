@@ -19,12 +19,12 @@ takes-out-requires c κs = search needs
 returns : tie.Need-returns
 returns c = rw (← out (c .before), c .if1 .taken)
 
-ran-requires : tie.Need-ran-requires
-ran-requires c κs = sym (c .before .takes-out .ensures) ∙ c .if1 .left
+executed-requires : tie.Need-executed-requires
+executed-requires c κs = sym (c .before .takes-out .ensures) ∙ c .if1 .left
 
 returns-2 : tie.Need-returns-2
-returns-2 c = c .ran .ensures ∙ rw (← out (c .before .before), c .before .if1 .left, c .before .before .before .line-run .ensures)
+returns-2 c = c .executed .ensures ∙ rw (← out (c .before .before), c .before .if1 .left, c .before .before .before .line-run .ensures)
 
 pub run-line-spec : {M : Type 1} → statement M
 run-line-spec =
-    tie.close (tie.spec line-run-requires takes-out-requires returns ran-requires returns-2)
+    tie.close (tie.spec line-run-requires takes-out-requires returns executed-requires returns-2)

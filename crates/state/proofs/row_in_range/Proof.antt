@@ -2,7 +2,8 @@
 use Prim.Native.Nat.{_+_, _-_, _*_, _<_}
 use mathlib.Core.Path.{sym, ap}
 use borrow.Author.Needs.{needs}
-use Rattle.state.specs.Range.{every, slotInRange, rowOfThread}
+use Rattle.object.specs.Each.{every}
+use Rattle.state.specs.Range.{slotInRange, rowOfThread}
 use Rattle.state.proofs.Walks.{everyWalk, Left, goes-on, fails, ends-either, below-both, drop-take}
 use Rattle.state.proofs.row_in_range.Statement.{statement}
 use Rattle.state.proofs.row_in_range.Tie as tie

@@ -3,7 +3,8 @@ use Prim.Native.Nat.{_-_}
 use mathlib.Core.Path.{refl}
 use lib.ListN.{take}
 use borrow.Author.Needs.{needs}
-use Rattle.state.specs.Range.{every, threadInRange}
+use Rattle.object.specs.Each.{every}
+use Rattle.state.specs.Range.{threadInRange}
 use Rattle.state.proofs.Walks.{everyWalk, Left, goes-on, fails, ends-full}
 use Rattle.state.proofs.threads_in_range.Statement.{statement}
 use Rattle.state.proofs.threads_in_range.Tie as tie

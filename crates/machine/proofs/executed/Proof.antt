@@ -1,10 +1,10 @@
--- `machine::ran` meets its contract: each arm does what its printed line does. Assumes nothing.
+-- `machine::executed` meets its contract: each arm does what its printed line does. Assumes nothing.
 use native.Mathlib.Omega.{arith}
 use borrow.Author.Needs.{needs}
 use Rattle.machine.proofs.Refusal.{begun-below, served-below}
 use Rattle.machine.proofs.Table.{no-line}
-use Rattle.machine.proofs.ran.Statement.{statement}
-use Rattle.machine.proofs.ran.Tie as tie
+use Rattle.machine.proofs.executed.Statement.{statement}
+use Rattle.machine.proofs.executed.Tie as tie
 
 add-th : tie.Need-add-th
 add-th c = let a = c .before .before .before .before .before .before .args in omega (arith, begun-below (a .thread) (a .node) (a .h) (c .before .before .before .before .before .before .pre) (c .before .match .keys1))
@@ -93,8 +93,8 @@ returns-21 c = simp (c .match .keys21)
 returns-22 : tie.Need-returns-22
 returns-22 c = simp (← no-line _ (c .match .rest))
 
-pub ran-spec : {M : Type 1} → statement M
-ran-spec =
+pub executed-spec : {M : Type 1} → statement M
+executed-spec =
     tie.close
     (tie.spec
     add-th

@@ -1,0 +1,14 @@
+-- How much room a machine has: for 16 threads, with 16 requests each.
+use Prim.Native.Nat.{ℕ, _+_, _*_}
+
+-- nodes 0 to n: one for each thread, and the first dummy
+abbrev pub mostNodes : ℕ
+mostNodes = 17
+
+-- Tail, and five fields of each node
+abbrev pub mostLocations : ℕ
+mostLocations = 1 + 5 * mostNodes
+
+-- places of calls, 16 for each thread
+abbrev pub mostCalls : ℕ
+mostCalls = 256

@@ -1,0 +1,136 @@
+-- Lists, rows of requests, copies, objects and lines that are the same as far as n, a thread's count and the items held go: they are judged alike and are
+-- the same so far after an entry. Assumes what the modules' parameters say.
+use Prim.Native.Nat.{ℕ, zero, suc, _+_, _<_, _≤_}
+use native.Mathlib.Omega.{arith}
+use native.Mathlib.Decide.{ℕ-discrete}
+use native.Mathlib.Nat.{add-zero}
+use mathlib.Core.Path.{_≡_, refl, sym, ap, ap₂, subst, _∙_}
+use mathlib.Core.Bool.{Bool, true, false, cond, _&&_}
+use mathlib.Core.List.{List, [], _∷_}
+use lib.ListN.{length, getD, take, set, length-set}
+use lib.Seq.{getD-take, take-set-lt}
+use lib.Dec.{T, ltb}
+use Rattle.object.specs.declared.Kind.{Kind}
+use Rattle.object.specs.declared.Request.{Request}
+use Rattle.object.specs.declared.Answer.{Answer}
+use Rattle.object.specs.declared.Answer.the-variants.{Empty}
+use Rattle.object.specs.declared.Object.{Object}
+use Rattle.object.specs.Apply.{objectInRange, answered}
+use Rattle.object.specs.Each.{Each, every}
+use Rattle.object.proofs.Each.{each-append}
+use Rattle.object.proofs.Plainly.{HoldSame, AnswerSame, same-answered}
+use Rattle.machine.specs.declared.NodeId.{NodeId}
+use Rattle.machine.specs.declared.Announced.{Announced}
+use Rattle.machine.specs.declared.Announced.the-variants.{NoRequest, Asked}
+use Rattle.machine.specs.declared.Node.{Node}
+use Rattle.machine.specs.declared.Thread.{Thread}
+use Rattle.machine.specs.declared.SharedAccess.{SharedAccess}
+use Rattle.machine.specs.declared.SharedAccess.the-variants.{NoAccess, Read, Write, Swap}
+use Rattle.machine.specs.declared.Row.{Row}
+use Rattle.machine.specs.Lines.{Access, read, write, swap, lineOf, lineRun, accessTo, accessesOf}
+use Rattle.machine.specs.Effect.{executed}
+use Rattle.copies.specs.Remote.{place, located, hasCopyOf, copiesAfter, referred}
+use Rattle.copies.proofs.Holding.{field-number-below, place-injective, Ends, elsewhere-kept, read-kept, own-held, others-ended}
+use Rattle.state.specs.declared.Slot.{Slot}
+use Rattle.state.specs.Range.{reqInRange, slotInRange, rowOfThread, rowsInRange}
+use Rattle.state.proofs.RangeFacts.{Begun}
+use Rattle.step.specs.Entry.{zeroThread, servedBy}
+use Rattle.step.specs.Past.{placesTo, SameCopies}
+
+-- lists with the same first n have the same at each of these places
+pub same-at : {A : Type 0} (n : ℕ) (xs ys : List A) → take n xs ≡ take n ys → (i : ℕ) (d : A) → i < n → getD xs i d ≡ getD ys i d
+same-at n xs ys e i d h = sym (getD-take n xs i d h) ∙ ap (λ l. getD l i d) e ∙ getD-take n ys i d h
+
+-- and still after one of them is set
+pub same-set : {A : Type 0} (n : ℕ) (xs ys : List A) → take n xs ≡ take n ys → (i : ℕ) (a : A) → i < n → take n (set xs i a) ≡ take n (set ys i a)
+same-set n xs ys e i a h = take-set-lt n xs i a h ∙ ap (λ l. set l i a) e ∙ sym (take-set-lt n ys i a h)
+
+-- rows that are the same as far as their counts use them are judged alike
+pub same-rows : (kind : Kind) (requests requests′ : List Slot) (i n : ℕ) (ths : List Thread)
+    → ((k : ℕ) → k < n → rowOfThread requests (i + k) (getD ths k zeroThread .count) ≡ rowOfThread requests′ (i + k) (getD ths k zeroThread .count))
+    → rowsInRange kind requests i (take n ths) ≡ rowsInRange kind requests′ i (take n ths)
+same-rows kind requests requests′ i zero ths f = refl
+same-rows kind requests requests′ i (suc n) [] f = refl
+same-rows kind requests requests′ i (suc n) (th ∷ ths) f =
+    let next : (k : ℕ) → i + suc k ≡ i + 1 + k = λ k. omega arith in
+    ap₂ _&&_ (ap (every (slotInRange kind)) (rw add-zero at (f 0 (omega arith))))
+    (same-rows kind requests requests′ (i + 1) n ths (λ k h. rw (← next k) (f (suc k) (omega arith))))
+
+-- an access to Tail or to a node up to n
+abbrev pub Near : ℕ → Access → Type 0
+Near n a = place (located a) < placesTo n
+
+module _ (n : ℕ) (m : NodeId) (up-to : m .0 ≤ n) where
+  -- the accesses of a line that points to such a node are near
+  near-to : (a : SharedAccess) → Each (Near n) (accessTo m a)
+  near-to NoAccess = tt
+  near-to (Read field) = (omega (arith, field-number-below field), tt)
+  near-to (Write field) = (omega (arith, field-number-below field), tt)
+  near-to Swap = (omega arith, tt)
+
+  pub near-of : (r : Row) → Each (Near n) (accessesOf r m)
+  near-of r = each-append (Near n) (accessTo m (r .first)) (accessTo m (r .second)) (near-to (r .first)) (near-to (r .second))
+
+-- copies that are the same as far as n goes are so after one access of a thread below n
+module _ (n t : ℕ) (below : t < n) (few : n ≤ 16) where
+  module _ (c c′ : List ℕ) (full : length c ≡ 86) (full′ : length c′ ≡ 86) (same : SameCopies n c c′) where
+    both-ended : (a : Access) → Ends a → Near n a → (u : ℕ) → u < n → (u ≡ t → ⊥)
+        → hasCopyOf (copiesAfter n t a c) u (located a) ≡ hasCopyOf (copiesAfter n t a c′) u (located a)
+    both-ended a r q u h d =
+        others-ended n t c below few a r u (omega arith) h d ∙ sym (others-ended n t c′ below few a r u (omega arith) h d)
+
+    same-here : (a : Access) → Near n a → (u : ℕ) → u < n → (u ≡ t → ⊥)
+        → hasCopyOf (copiesAfter n t a c) u (located a) ≡ hasCopyOf (copiesAfter n t a c′) u (located a)
+    same-here (read l) q u h d = read-kept n t c l u (omega arith) d ∙ same u h l q ∙ sym (read-kept n t c′ l u (omega arith) d)
+    same-here (write l) q u h d = both-ended (write l) tt q u h d
+    same-here (swap l) q u h d = both-ended (swap l) tt q u h d
+
+    same-after : (a : Access) → Near n a → SameCopies n (copiesAfter n t a c) (copiesAfter n t a c′)
+    same-after a q u h l k =
+        elim (ℕ-discrete (place l) (place (located a))) [
+          | yes e ↦ rw (place-injective l (located a) e) (elim (ℕ-discrete u t) [
+            | yes p ↦ rw p (own-held n t c below few a (omega arith) ∙ sym (own-held n t c′ below few a (omega arith)))
+            | no d ↦ same-here a q u h d
+          ])
+          | no d ↦
+              let apart : l ≡ located a → ⊥ = λ p. d (ap place p) in
+              elsewhere-kept n t c a u l apart ∙ same u h l k ∙ sym (elsewhere-kept n t c′ a u l apart)
+        ]
+
+  -- and after a list of them, of which as many are remote
+  pub same-referred : (accesses : List Access) → Each (Near n) accesses → (c c′ : List ℕ) → length c ≡ 86 → length c′ ≡ 86 → SameCopies n c c′
+      → (referred n t c accesses .remote ≡ referred n t c′ accesses .remote) × SameCopies n (referred n t c accesses .copies) (referred n t c′ accesses .copies)
+  same-referred [] near c c′ full full′ same = (refl, same)
+  same-referred (a ∷ accesses) near c c′ full full′ same =
+      let after = same-after c c′ full full′ same a (near .0) in
+      let rest = same-referred accesses (near .1) (copiesAfter n t a c) (copiesAfter n t a c′) (length-set c _ _ ∙ full) (length-set c′ _ _ ∙ full′) after in
+      (ap₂ _+_ (ap (λ (b : Bool). cond b 0 1) (same t below (located a) (near .0))) (rest .0), rest .1)
+
+-- whether or not a req is served, objects that hold the same answer the same
+pub same-served : (kind : Kind) (capacity : ℕ) (ob ob′ : Object) (serves : Bool) (req : Announced) → length (ob .items) ≡ 64 → length (ob′ .items) ≡ 64
+    → T (objectInRange kind capacity ob) → reqInRange kind req ≡ true → HoldSame ob ob′
+    → AnswerSame (cond serves (servedBy kind capacity ob req) (answered Empty ob)) (cond serves (servedBy kind capacity ob′ req) (answered Empty ob′))
+same-served kind capacity ob ob′ false req long long′ fits known same = record { answer = refl; object = same }
+same-served kind capacity ob ob′ true NoRequest long long′ fits known same = record { answer = refl; object = same }
+same-served kind capacity ob ob′ true (Asked request) long long′ fits known same =
+    same-answered kind capacity ob ob′ request long long′ fits (rw known tt) same
+
+-- a thread that has begun no request runs line 1 or gives a blank, which use none
+module _ (th : Thread) (x : Node) (tail : NodeId) (h : ℕ) (request request′ : Request) (answer : Answer) where
+  idle : (line begun : ℕ) → Begun line begun → begun ≡ 0 → line ≡ 0
+  idle zero begun f e = refl
+  idle (suc line) begun f e = absurd (omega arith)
+
+  from-idle : (left : Bool) → executed th x tail h request answer (lineOf (cond left 1 0)) ≡ executed th x tail h request′ answer (lineOf (cond left 1 0))
+  from-idle true = refl
+  from-idle false = refl
+
+  pub same-executed : Begun (th .line) (th .begun) → (0 < th .begun → request ≡ request′)
+      → executed th x tail h request answer (lineOf (lineRun th)) ≡ executed th x tail h request′ answer (lineOf (lineRun th))
+  same-executed f same =
+      elim (ℕ-discrete (th .begun) 0) [
+        | yes e ↦
+            let runs : cond (ltb (th .begun) (th .count)) 1 0 ≡ lineRun th = rw (idle (th .line) (th .begun) f e) refl in
+            subst (λ (k : ℕ). executed th x tail h request answer (lineOf k) ≡ executed th x tail h request′ answer (lineOf k)) runs (from-idle (ltb (th .begun) (th .count)))
+        | no d ↦ rw (same (omega (arith, d)))
+      ]
