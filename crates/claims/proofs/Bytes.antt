@@ -11,9 +11,9 @@ use Rattle.bench_file.specs.Bytes.{lowFirst, Byte}
 use Rattle.machine.specs.declared.RetVal.{RetVal}
 use Rattle.machine.specs.declared.RetVal.the-variants.{NoAnswer, Answered}
 use Rattle.step.specs.Entry.{oneIf}
-use Rattle.claims.specs.Entries.{Entry}
+use Rattle.history.specs.Entries.{Entry}
 use Rattle.claims.specs.Claims.{SixteenBytes}
-use Rattle.claims.specs.Terms.{Call, same, Serving, servings, returned, shown, shownOf, retMark, recordOf}
+use Rattle.history.specs.Terms.{Call, same, Serving, servings, returned, shown, shownOf, retMark, recordOf}
 
 -- an answer's mark is not that of none
 pub mark-below : (a : Answer) → answerMark a < 255
@@ -30,16 +30,7 @@ test-byte : (b : Bool) → Byte (oneIf b)
 test-byte true = omega arith
 test-byte false = omega arith
 
--- who is shown to serve is a thread, or 255
-pub server-byte : (n : ℕ) → n < 256 → (c : Call) (served : List Serving) → Each (λ (w : Serving). w .server < n) served → Byte (shownOf c served .server)
-server-byte n few c [] each = omega arith
-server-byte n few c (w ∷ served) each = by-test (same c (w .call)) (server-byte n few c served (each .1))
-  where
-    by-test : (b : Bool) → Byte (shownOf c served .server) → Byte (cond b (shown w) (shownOf c served) .server)
-    by-test true later = omega (arith, each .0)
-    by-test false later = later
-
-pub sixteen-bytes : (run : List Entry) (c : Call) → Byte (c .thread) → Byte (c .request) → Byte (shownOf c (servings run) .server)
-    → SixteenBytes (recordOf run c)
+pub sixteen-bytes : (history : List Entry) (c : Call) → Byte (c .thread .0) → Byte (c .request) → Byte (shownOf c (servings history) .server .0)
+    → SixteenBytes (recordOf history c)
 unfolding lowFirst
-sixteen-bytes run c thread request server = omega (arith, ret-byte (shownOf c (servings run) .ret), test-byte (returned c run))
+sixteen-bytes history c thread request server = omega (arith, ret-byte (shownOf c (servings history) .ret), test-byte (returned c history))

@@ -1,5 +1,5 @@
--- The machine's counts are those of the entries, and what is counted has 32 bits. Assumes at most 32,768 entries where numbers fit.
-use Prim.Native.Nat.{ℕ, _*_, _≤_, _<_, _^_}
+-- The machine's counts are those of the entries, and have 32 bits. Assumes at most 32,768 entries where numbers fit.
+use Prim.Native.Nat.{ℕ, _≤_, _<_}
 use native.Mathlib.Omega.{arith}
 use native.Mathlib.Nat.{add-comm}
 use mathlib.Core.Path.{_≡_, refl, sym, ap, _∙_}
@@ -12,18 +12,16 @@ use Rattle.machine.specs.declared.ThreadId.{ThreadId}
 use Rattle.machine.specs.declared.SharedAccess.{SharedAccess}
 use Rattle.machine.specs.declared.SharedAccess.the-variants.{NoAccess, Read, Write, Swap}
 use Rattle.machine.specs.Lines.{Access, accessTo}
-use Rattle.copies.specs.Remote.{located, holds, copiesAfter, referred}
+use Rattle.copies.specs.Remote.{located, hasCopyOf, copiesAfter, referred}
 use Rattle.state.specs.declared.Counts.{Counts}
 use Rattle.state.specs.declared.State.{State}
 use Rattle.state.specs.Range.{countsInRange}
-use Rattle.state.proofs.RangeFacts.{counts-iff}
-use Rattle.step.specs.Entry.{oneIf, moreOf, plus, line, row, target, node, accesses, references, countsAfter, entered}
-use Rattle.claims.specs.Entries.{Entry, remoteMarks, entryOf, sumOver, remoteIn, runs}
-use Rattle.claims.specs.Terms.{Call, isOf, costOf, countsOf}
-
-at-most-one : (test : Bool) → oneIf test ≤ 1
-at-most-one true = omega arith
-at-most-one false = omega arith
+use Rattle.step.specs.Entry.{oneIf, moreOf, plus, row, target, event, accesses, references, countsAfter, entered}
+use Rattle.history.specs.Entries.{Entry, remoteIn}
+use Rattle.history.specs.Copies.{remoteMarks}
+use Rattle.history.specs.Terms.{countsOf}
+use Rattle.history.proofs.Sums.{at-most-one, Few, counts-fit}
+use Rattle.claims.specs.Entries.{entryOf}
 
 -- the remote accesses of an entry are as many as the state counts
 one-remote : (has : Bool) → oneIf (not has) ≡ cond has 0 1
@@ -34,13 +32,13 @@ module _ (n t : ℕ) where
   pub remote-ones : (copies : List ℕ) (accesses : List Access) → remoteIn (remoteMarks n t copies accesses) ≡ referred n t copies accesses .remote
   remote-ones copies [] = refl
   remote-ones copies (a ∷ accesses) =
-      omega (arith, one-remote (holds copies t (located a)), remote-ones (copiesAfter n t a copies) accesses)
+      omega (arith, one-remote (hasCopyOf copies t (located a)), remote-ones (copiesAfter n t a copies) accesses)
 
   -- and no more than its accesses
   remote-most : (copies : List ℕ) (accesses : List Access) → remoteIn (remoteMarks n t copies accesses) ≤ length accesses
   remote-most copies [] = omega arith
   remote-most copies (a ∷ accesses) =
-      omega (arith, at-most-one (not (holds copies t (located a))), remote-most (copiesAfter n t a copies) accesses)
+      omega (arith, at-most-one (not (hasCopyOf copies t (located a))), remote-most (copiesAfter n t a copies) accesses)
 
 one-access : (m : NodeId) (access : SharedAccess) → length (accessTo m access) ≤ 1
 one-access m NoAccess = omega arith
@@ -49,9 +47,6 @@ one-access m (Write field) = omega arith
 one-access m Swap = omega arith
 
 -- an entry makes at most two remote references
-abbrev pub Few : Entry → Type 0
-Few e = remoteIn (e .remote) ≤ 2
-
 entry-few : (s : State) (t : ThreadId) → Few (entryOf s t)
 entry-few s t =
     let one = one-access (target s t) (row s t .first) in
@@ -70,45 +65,11 @@ pub record Counted (s : State) (past : List Entry) : Type 0 where
 pub counted-next : (s : State) (past : List Entry) (t : ThreadId) → Counted s past → Counted (entered s t) (entryOf s t ∷ past)
 counted-next s past t c = record {
   counts =
-      ap (λ (c : Counts). plus c (moreOf (line s t) (node s t .wait) (references s t .remote))) (c .counts)
+      ap (λ (c : Counts). plus c (moreOf (event s t) (references s t .remote))) (c .counts)
       ∙ plus-comm (countsOf past) _
-      ∙ ap (λ (remote : ℕ). plus (moreOf (line s t) (node s t .wait) remote) (countsOf past)) (sym (remote-ones (s .n) (t .0) (s .copies) (accesses s t)));
+      ∙ ap (λ (remote : ℕ). plus (moreOf (event s t) remote) (countsOf past)) (sym (remote-ones (s .n) (t .0) (s .copies) (accesses s t)));
   few = (entry-few s t, c .few);
 }
-
--- a number that is at most 2 at each entry
-sum-most : (number : Entry → List Entry → ℕ) → ((e : Entry) (past : List Entry) → Few e → number e past ≤ 2)
-    → (run : List Entry) → Each Few run → sumOver number run ≤ 2 * length run
-sum-most number small [] few = omega arith
-sum-most number small (e ∷ past) few = omega (arith, small e past (few .0), sum-most number small past (few .1))
-
--- and of a test at most as many as there are entries
-pub tests-few : (test : Entry → Bool) (run : List Entry) → sumOver (λ e past. oneIf (test e)) run ≤ length run
-tests-few test [] = omega arith
-tests-few test (e ∷ past) = omega (arith, at-most-one (test e), tests-few test past)
-
-module _ (run : List Entry) (few : Each Few run) (short : length run ≤ 32768) where
-  fits : (number : Entry → List Entry → ℕ) → ((e : Entry) (past : List Entry) → Few e → number e past ≤ 2) → sumOver number run < 2 ^ 32
-  fits number small = omega (arith, sum-most number small run few)
-
-  tests-fit : (test : Entry → Bool) → sumOver (λ e past. oneIf (test e)) run < 2 ^ 32
-  tests-fit test = fits (λ e past. oneIf (test e)) (λ e past few. omega (arith, at-most-one (test e)))
-
-  counts-fit : countsInRange (countsOf run) ≡ true
-  counts-fit = counts-iff (countsOf run) .1 (record {
-    records = tests-fit (runs 5);
-    turns = tests-fit (runs 12);
-    blanks = tests-fit (runs 0);
-    spins = tests-fit (λ e. e .spins);
-    remote = fits (λ e past. remoteIn (e .remote)) (λ e past few. few);
-  })
-
-  pub cost-fits : (c : Call) → costOf c run < 2 ^ 32
-  cost-fits c = fits (λ e past. cond (isOf c e past) (remoteIn (e .remote)) 0) (λ e past few. by-test (isOf c e past) few)
-    where
-      by-test : {k : ℕ} (test : Bool) → k ≤ 2 → cond test k 0 ≤ 2
-      by-test true h = h
-      by-test false h = omega arith
 
 -- so an entry after fewer than 32,768 leaves the counts in range
 pub next-fits : (s : State) (past : List Entry) (t : ThreadId) → Counted s past → length past < 32768 → countsInRange (countsAfter s t) ≡ true

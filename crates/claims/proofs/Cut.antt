@@ -12,13 +12,14 @@ use Rattle.object.proofs.Each.{each-take}
 use Rattle.machine.specs.declared.ThreadId.{ThreadId}
 use Rattle.state.specs.declared.State.{State}
 use Rattle.step.specs.Entry.{entered}
-use Rattle.claims.specs.Entries.{Entry, entryOf, startOf, entriesFrom, stateAfter, entriesOf, cut}
+use Rattle.history.specs.Entries.{Entry, threadId}
+use Rattle.claims.specs.Entries.{entryOf, startOf, entriesFrom, stateAfter, entriesOf, cut}
 
 entries-cut : (s : State) (j : ℕ) (schedule : List ℕ) → entriesFrom s (take j schedule) ≡ take j (entriesFrom s schedule)
 unfolding entriesFrom
 entries-cut s zero schedule = refl
 entries-cut s (suc j) [] = refl
-entries-cut s (suc j) (t ∷ schedule) = ap (λ (l : List Entry). entryOf s (record { 0 = t }) ∷ l) (entries-cut (entered s (record { 0 = t })) j schedule)
+entries-cut s (suc j) (t ∷ schedule) = ap (λ (l : List Entry). entryOf s (threadId t) ∷ l) (entries-cut (entered s (threadId t)) j schedule)
 
 pub stopped : (f : Fields) (j : ℕ) → entriesOf (cut j f) ≡ take j (entriesOf f)
 stopped f j = entries-cut (startOf f) j (f .schedule)
@@ -44,7 +45,7 @@ along : (n most : ℕ) (P : State → List Entry → Type 0) → Keeps n most P 
 unfolding entriesFrom stateAfter
 along n most P keeps s past [] each few p = p
 along n most P keeps s past (t ∷ schedule) each few p =
-    let now : ThreadId = record { 0 = t } in
+    let now : ThreadId = threadId t in
     along n most P keeps (entered s now) (entryOf s now ∷ past) schedule (each .1) (omega arith) (keeps s past now (each .0) (omega arith) p)
 
 -- so it holds after every cut of a file's run

@@ -2,19 +2,21 @@
 use Prim.Native.Nat.{ℕ, zero, suc, _+_, _-_, _*_, _≤_, _<_, min, max}
 use native.Mathlib.Omega.{arith}
 use mathlib.Core.Path.{_≡_, refl, ap₂}
-use mathlib.Core.List.{List, [], _∷_, reverse}
+use mathlib.Core.List.{List, [], _∷_}
 use lib.ListN.{length, getD}
 use Rattle.object.specs.declared.Kind.{Kind}
 use Rattle.object.specs.declared.Request.{Request}
-use Rattle.object.specs.Each.{Each}
+use Rattle.object.specs.Each.{Each, sumOf}
 use Rattle.bench_file.specs.Layout.{Fields}
 use Rattle.bench_file.specs.Bytes.{RowInRange, InRange}
-use Rattle.bench_file.specs.Cursor.{sumOver}
-use Rattle.claims.specs.Entries.{Entry, entriesOf, howMany}
-use Rattle.claims.specs.Terms.{swapAt}
+use Rattle.history.specs.Entries.{Entry, howMany}
+use Rattle.claims.specs.Entries.{historyOf}
+use Rattle.history.specs.Terms.{swapAt}
 use Rattle.claims.specs.Claims.{Holds}
-use Rattle.claims.proofs.OfCall.{call}
-use Rattle.claims.proofs.Theorem.{holds-whole}
+use Rattle.history.proofs.OfCall.{call}
+use Rattle.machine.specs.declared.Event.the-variants.{Swaps}
+use Rattle.machine.specs.Sizes.{mostCalls}
+use Rattle.claims.proofs.Theorem.{claim-whole}
 
 -- the place of p is closed: what is below it goes up by one
 abbrev closed : ℕ → ℕ → ℕ
@@ -38,8 +40,8 @@ callNumber [] t q = q
 callNumber (row ∷ rows) zero q = q
 callNumber (row ∷ rows) (suc t) q = length row + callNumber rows t q
 
-number-below : (rows : List (List Request)) (t q : ℕ) → q < length (getD rows t []) → callNumber rows t q < sumOver length rows
-unfolding callNumber sumOver
+number-below : (rows : List (List Request)) (t q : ℕ) → q < length (getD rows t []) → callNumber rows t q < sumOf length rows
+unfolding callNumber sumOf
 number-below [] t q b = absurd (omega arith)
 number-below (row ∷ rows) zero q b = omega arith
 number-below (row ∷ rows) (suc t) q b = omega (arith, number-below rows t q b)
@@ -55,28 +57,28 @@ number-apart (row ∷ rows) (suc t) zero q r b c e = absurd (omega arith)
 number-apart (row ∷ rows) (suc t) (suc u) q r b c e = omega (arith, number-apart rows t u q r b c (omega arith))
 
 -- each Swap is of a call of its own, and that is one of the file's
-swaps-few : (f : Fields) {run : List Entry} {s a : ℕ} → Holds f run s a → s ≤ sumOver length (f .rows)
-swaps-few f {run} {s} claim =
+swaps-few : (f : Fields) {history : List Entry} {s a : ℕ} → Holds f history s a → s ≤ sumOf length (f .rows)
+swaps-few f {history} {s} claim =
     let there = claim .of-the-file in
     omega (
       arith,
-      different-few s 0 (sumOver length (f .rows)) (λ i. callNumber (f .rows) (swapAt run i .thread) (swapAt run i .request))
+      different-few s 0 (sumOf length (f .rows)) (λ i. callNumber (f .rows) (swapAt history i .thread .0) (swapAt history i .request))
           (λ i b. (omega arith, number-below (f .rows) _ _ (there i b)))
           (λ i k b c e. claim .distinct i k b c (let same = number-apart (f .rows) _ _ _ _ (there i (omega arith)) (there k c) e in ap₂ call (same .0) (same .1))),
     )
 
-rows-few : (object : Kind) (rows : List (List Request)) → Each (RowInRange object) rows → sumOver length rows ≤ 16 * length rows
-unfolding sumOver
+rows-few : (object : Kind) (rows : List (List Request)) → Each (RowInRange object) rows → sumOf length rows ≤ 16 * length rows
+unfolding sumOf
 rows-few object [] each = omega arith
 rows-few object (row ∷ rows) each = omega (arith, each .0 .count, rows-few object rows (each .1))
 
-pub requests-few : (f : Fields) → InRange f → sumOver length (f .rows) ≤ 256
+pub requests-few : (f : Fields) → InRange f → sumOf length (f .rows) ≤ mostCalls
 requests-few f fits = omega (arith, rows-few (f .head .object) (f .rows) (fits .rows), fits .threads, fits .head .n)
 
 -- the Swaps of the whole run
 module _ (f : Fields) (fits : InRange f) where
-  pub all-swaps-asked : howMany 5 (reverse (entriesOf f)) ≤ sumOver length (f .rows)
-  all-swaps-asked = swaps-few f (holds-whole f fits)
+  pub all-swaps-asked : howMany Swaps (historyOf f) ≤ sumOf length (f .rows)
+  all-swaps-asked = swaps-few f (claim-whole f fits)
 
-  pub all-swaps-few : howMany 5 (reverse (entriesOf f)) ≤ 256
+  pub all-swaps-few : howMany Swaps (historyOf f) ≤ mostCalls
   all-swaps-few = omega (arith, all-swaps-asked, requests-few f fits)

@@ -16,7 +16,8 @@ use Rattle.step.specs.Step.{stepOf}
 use Rattle.step.specs.Steps.{stepsOf}
 use Rattle.step.proofs.Outcome.{begun-few}
 use Rattle.step.proofs.Soundness.{Sound}
-use Rattle.claims.specs.Entries.{Entry, entryOf, startOf, stateAfter, entriesOf}
+use Rattle.history.specs.Entries.{Entry}
+use Rattle.claims.specs.Entries.{entryOf, startOf, stateAfter, entriesOf}
 use Rattle.claims.specs.Claims.{askedBy}
 use Rattle.claims.proofs.Counted.{Counted, counted-next, next-fits}
 use Rattle.claims.proofs.Cut.{cut-in-range, after-cut}
@@ -36,7 +37,7 @@ pub record Going (f : Fields) (s : State) (past : List Entry) : Type 0 where
 
 -- the request of the call that a thread has begun last is the file's
 pub request-going : (f : Fields) (s : State) (past : List Entry) (t : ThreadId) → InRange f → Going f s past → t .0 < s .n
-    → request s t ≡ askedBy f (record { thread = t .0; request = named s t .begun - 1 })
+    → request s t ≡ askedBy f (record { thread = t; request = named s t .begun - 1 })
 request-going f s past t fits going below =
     rw (going .requests)
     (requests-start f fits (t .0) (named s t .begun - 1) (omega (arith, begun-few s t (going .sound .shape) (going .sound .range) below)))

@@ -12,13 +12,14 @@ use Rattle.object.specs.declared.Kind.{Kind}
 use Rattle.object.specs.declared.Request.{Request}
 use Rattle.object.specs.declared.Request.the-variants.{Put}
 use Rattle.bench_file.specs.Layout.{Fields}
-use Rattle.object.specs.Each.{Each}
+use Rattle.object.specs.Each.{Each, every}
 use Rattle.bench_file.specs.Bytes.{RequestInRange, RowInRange, InRange}
 use Rattle.object.proofs.Each.{each-getD}
 use Rattle.bench_file.proofs.Codec.{within-range}
 use Rattle.bench_file.proofs.RoundTrip.{capacity-range, request-known}
+use Rattle.machine.specs.Sizes.{mostCalls, mostNodes}
 use Rattle.state.specs.declared.Slot.{Slot}
-use Rattle.state.specs.Range.{every, slotInRange, rowsInRange, threadInRange, nodeInRange}
+use Rattle.state.specs.Range.{slotInRange, rowsInRange, threadInRange, nodeInRange}
 use Rattle.state.specs.Shape.{Shaped}
 use Rattle.state.specs.Fresh.{freshThread, freshNode}
 use Rattle.state.proofs.Kept.{every-first, rows-first}
@@ -28,6 +29,7 @@ use Rattle.step.specs.Entry.{zeroSlot, zeroThread, zeroNode}
 use Rattle.step.proofs.Soundness.{Sound}
 use Rattle.invariant.specs.View.{viewOf}
 use Rattle.invariant.proofs.Start.{Fresh}
+use Rattle.history.specs.Entries.{threadId}
 use Rattle.claims.specs.Entries.{filled, slotsOf, rowsOf, startOf}
 use Rattle.claims.specs.Claims.{askedBy}
 use Rattle.claims.proofs.Filled.{length-filled, filled-at}
@@ -57,7 +59,7 @@ slot-at kind (row ∷ rows) (suc t) q e h =
 
 module _ (f : Fields) (fits : InRange f) where
   -- the requests of thread t's row, and past its end the request of an empty place
-  pub requests-start : (t q : ℕ) → q < 16 → getD (startOf f .requests) (16 * t + q) zeroSlot .request ≡ askedBy f (record { thread = t; request = q })
+  pub requests-start : (t q : ℕ) → q < 16 → getD (startOf f .requests) (16 * t + q) zeroSlot .request ≡ askedBy f (record { thread = threadId t; request = q })
   requests-start t q h = rw filled-at (slot-at (f .head .object) (f .rows) t q (fits .rows) h)
 
   few : length (map length (f .rows)) ≤ 16
@@ -68,8 +70,8 @@ module _ (f : Fields) (fits : InRange f) where
       fresh-at 0 (filled 16 0 (map length (f .rows))) u zeroThread (rw (length-filled 0 16 (map length (f .rows)) few) (omega (arith, fits .head .n)))
       ∙ rw (zero-add, filled-at) (ap (freshThread u) (List·getD-map length (f .rows) u []))
 
-  node-start : (m : ℕ) → m < 17 → getD (startOf f .nodes) m zeroNode ≡ freshNode
-  node-start m h = getD-replicate 17 m freshNode zeroNode h
+  node-start : (m : ℕ) → m < mostNodes → getD (startOf f .nodes) m zeroNode ≡ freshNode
+  node-start m h = getD-replicate mostNodes m freshNode zeroNode h
 
   pub fresh-start : Fresh (f .head .n) (viewOf (startOf f))
   fresh-start = record {
@@ -83,7 +85,7 @@ module _ (f : Fields) (fits : InRange f) where
   shaped-start = record {
     threads = length-fresh 0 (filled 16 0 (map length (f .rows))) ∙ length-filled 0 16 (map length (f .rows)) few;
     nodes = refl;
-    requests = length-filled zeroSlot 256 (rowsOf (f .rows)) (rw (length-rows (f .head .object) (f .rows) (fits .rows)) (omega (arith, fits .threads, fits .head .n)));
+    requests = length-filled zeroSlot mostCalls (rowsOf (f .rows)) (rw (length-rows (f .head .object) (f .rows) (fits .rows)) (omega (arith, fits .threads, fits .head .n)));
     copies = refl;
     items = refl;
   }

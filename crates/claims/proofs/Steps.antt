@@ -17,7 +17,8 @@ use Rattle.step.specs.Step.{goesThrough, stepOf}
 use Rattle.step.specs.Steps.{onwardOver, stepsOf}
 use Rattle.step.proofs.Outcome.{goes-through-exactly}
 use Rattle.step.proofs.Soundness.{Sound, stays-sound}
-use Rattle.claims.specs.Entries.{Entry, entryOf, stateAfter}
+use Rattle.history.specs.Entries.{Entry, threadId}
+use Rattle.claims.specs.Entries.{entryOf, stateAfter}
 use Rattle.claims.proofs.Cut.{Keeps}
 
 abbrev pub through : State → Stepped
@@ -43,6 +44,6 @@ module _ (n most : ℕ) (P : State → List Entry → Type 0)
   unfolding onwardOver stateAfter
   steps-fold s past [] each few p = refl
   steps-fold s past (t ∷ schedule) each few p =
-      let now : ThreadId = record { 0 = t } in
+      let now : ThreadId = threadId t in
       ap (λ (r : Stepped). onwardOver r schedule) (goes s past now (each .0) (omega arith) p)
       ∙ steps-fold (entered s now) (entryOf s now ∷ past) schedule (each .1) (omega arith) (keeps s past now (each .0) (omega arith) p)

@@ -1,6 +1,7 @@
 -- Demand 3, for all fields in range and for every accepted file, at every cut of its schedule. Assumes nothing else.
-use Prim.Native.Nat.{ℕ}
-use mathlib.Core.Path.{_≡_, refl, ap}
+use Prim.Native.Nat.{ℕ, _<_}
+use native.Mathlib.Omega.{arith}
+use mathlib.Core.Path.{_≡_, refl, sym, ap}
 use mathlib.Core.List.{List, [], reverse}
 use lib.ListN.{length, take}
 use lib.Seq.{take-length}
@@ -14,17 +15,18 @@ use Rattle.invariant.specs.View.{viewOf}
 use Rattle.invariant.proofs.Data.{data-fresh}
 use Rattle.invariant.proofs.Remote.{remote-fresh}
 use Rattle.invariant.proofs.Start.{control-fresh}
-use Rattle.claims.specs.Entries.{startOf, stateAfter, entriesOf, howMany}
-use Rattle.claims.specs.Claims.{Holds, Demand3Of}
-use Rattle.claims.proofs.Calls.{calls-fresh}
+use Rattle.claims.specs.Entries.{startOf, stateAfter, entriesOf, historyOf}
+use Rattle.claims.specs.Claims.{Claimed, Demand3Of}
+use Rattle.history.proofs.Calls.{calls-fresh}
 use Rattle.claims.proofs.CopiesSaid.{copies-fresh}
 use Rattle.claims.proofs.Cut.{stopped, cut-in-range}
-use Rattle.claims.proofs.Parts.{holds}
-use Rattle.claims.proofs.Layers.{Layers, asks, stays, layers-next}
+use Rattle.claims.proofs.Parts.{claim}
+use Rattle.claims.proofs.Layers.{Layers, Bounded, asks, stays, layers-next}
 use Rattle.claims.proofs.Run.{Going, run-keeps, run-steps}
 use Rattle.claims.proofs.Start.{fresh-start, thread-start}
-use Rattle.claims.proofs.Swaps.{swaps-fresh}
-use Rattle.claims.proofs.Turns.{turns-fresh}
+use Rattle.history.proofs.Swaps.{swaps-fresh}
+use Rattle.claims.proofs.Seen.{phaseOf, seenOf, positionsOf}
+use Rattle.history.proofs.Turns.{turns-fresh}
 
 module _ (f : Fields) (fits : InRange f) where
   -- the fresh machine has the invariant
@@ -33,22 +35,26 @@ module _ (f : Fields) (fits : InRange f) where
       let n = f .head .n in
       let v = viewOf (startOf f) in
       let fresh = fresh-start f fits in
+      let idle : (u : ℕ) → u < n → phaseOf (v .thread u .line) ≡ 0 = λ u b. ap phaseOf (fresh .line u b) in
       record {
         ledger = freshLedger n;
         cost = λ u. 0;
+        answers = [];
         control = control-fresh n (f .head .h) v fresh;
         remote = remote-fresh (fresh .line);
         object = data-fresh n (asks f) (f .head .object) (f .head .capacity) v (fresh .line);
-        swaps = swaps-fresh n v (fresh .line) (λ u b. ap (λ (th : Thread). th .begun) (thread-start f fits u b));
-        turns = turns-fresh n (f .head .h) v (fresh .line);
-        calls = calls-fresh n v (λ u. 0) (fresh .line);
+        swaps = swaps-fresh n (seenOf v) (positionsOf (freshLedger n)) idle (λ u b. ap (λ (th : Thread). th .begun) (thread-start f fits u b)) refl refl;
+        turns = turns-fresh n (f .head .h) (seenOf v) (positionsOf (freshLedger n)) idle;
+        calls = calls-fresh Bounded n (seenOf v) (positionsOf (freshLedger n)) (λ u. 0) idle;
         copies = copies-fresh n;
         said = tt;
         rows = λ u b. ap (λ (th : Thread). th .count) (thread-start f fits u b);
+        answered = refl;
         asked = refl;
         by-combiner = refl;
         servers = tt;
         blanks = refl;
+        over = refl;
       }
 
   -- and the machine after j entries has it
@@ -60,16 +66,17 @@ module _ (f : Fields) (fits : InRange f) where
   demand-3 j =
       let kept = run-layers j in
       record {
-        holds = holds f _ _ (kept .0) (kept .1);
+        claim = claim f fits _ _ (kept .0) (kept .1);
         steps = run-steps f fits (Layers f) layers-start (stays f fits) (layers-next f fits) j;
         counts = kept .0 .counted .counts;
+        begun = λ t below. sym (kept .1 .swaps .begun (t .0) (omega (arith, kept .0 .n)));
         stopped = ap reverse (stopped f j);
         cut-file = cut-in-range f j fits;
       }
 
   -- after the last entry the claim is of the whole run
-  pub holds-whole : Holds f (reverse (entriesOf f)) (howMany 5 (reverse (entriesOf f))) (howMany 16 (reverse (entriesOf f)))
-  holds-whole = rw (take-length (entriesOf f)) at (demand-3 (length (entriesOf f)) .holds)
+  pub claim-whole : Claimed f (historyOf f)
+  claim-whole = rw (take-length (entriesOf f)) at (demand-3 (length (entriesOf f)) .claim)
 
 -- demand 3 from a file's bytes
 pub demand-3-of-files : (bytes : List ℕ) (f : Fields) → Each Byte bytes → judgeOf bytes ≡ accepted f → Demand3Of f

@@ -1,5 +1,5 @@
--- Demand 3 of document 01: one claim about the whole list of entries of a file's run. The entries are in Entries.antt, the terms in Terms.antt. Up to `Holds`
--- each definition reads the file and the entries alone; `Demand3` ties them to the machine's steps and counts.
+-- Demand 3 of document 01: one claim about the whole list of entries of a file's run. The entries are in Entries.antt, the terms in the crate `history`. Up to
+-- `Holds` each definition reads the file and the entries alone; `Demand3` ties them to the machine's steps and counts.
 -- The parts: 1 what is served, 2 the records, 3 the combiner, 4 turns, 5 remote references, 6 no refusal.
 use Prim.Native.Nat.{ℕ, _+_, _*_, _≤_, _<_, _^_}
 use mathlib.Core.Path.{_≡_}
@@ -16,26 +16,38 @@ use Rattle.object.specs.Plain.{fresh, answersFrom}
 use Rattle.bench_file.specs.Layout.{Fields}
 use Rattle.object.specs.Each.{Each}
 use Rattle.bench_file.specs.Bytes.{lowFirst, Byte, InRange}
+use Rattle.machine.specs.declared.ThreadId.{ThreadId}
 use Rattle.machine.specs.declared.Announced.the-variants.{Asked}
+use Rattle.machine.specs.declared.RetVal.the-variants.{Answered}
+use Rattle.machine.specs.declared.Event.the-variants.{Blank, Swaps, TurnBegins, Applies}
 use Rattle.state.specs.declared.State.{State}
+use Rattle.step.specs.Entry.{zeroThread}
 use Rattle.step.specs.Steps.{stepsOf}
-use Rattle.claims.specs.Entries.{Entry, startOf, stateAfter, entriesOf, cut, happened, runs, howMany, RemoteAsSaid}
-use Rattle.claims.specs.Terms.{Call, begunBy, swapOrder, swapAt, turnOfCall, combines, Serving, servings, servedIn, costOf, returned, combined, returns, Shown, shownOf, retMark, recordsOf, countsOf}
+use Rattle.history.specs.Entries.{Entry, happened, is, howMany}
+use Rattle.history.specs.Copies.{RemoteAsSaid}
+use Rattle.history.specs.Terms.{Call, begunBy, callOf, swapOrder, swapAt, noTurn, turnOfCall, combines, Serving, servings, servedIn, costOf, returned, combined, returns, Shown, shownOf, retMark, retValue, recordsOf, countsOf}
+use Rattle.claims.specs.Entries.{startOf, stateAfter, entriesOf, historyOf, cut}
 
--- the file's request of a call. Past a row, where no call of a run is (`of-the-file`), it is put 0
+-- the file's requests of a thread, and its request of a call. Past these, where no call of a run is (`of-the-file`), it is put 0
+abbrev pub askedOf : Fields → ThreadId → List Request
+askedOf f t = getD (f .rows) (t .0) []
+
 abbrev pub askedBy : Fields → Call → Request
-askedBy f c = getD (getD (f .rows) (c .thread) []) (c .request) (Put 0)
+askedBy f c = getD (askedOf f (c .thread)) (c .request) (Put 0)
 
 -- the answers of the plain object of the file's kind and capacity, fed the file's requests in Swap order and nothing else
 abbrev pub plainAnswers : Fields → List Entry → List Answer
-plainAnswers f run = answersFrom (f .head .object) (f .head .capacity) fresh (map (askedBy f) (swapOrder run))
+plainAnswers f history = answersFrom (f .head .object) (f .head .capacity) fresh (map (askedBy f) (swapOrder history))
 
--- what no entry does: give a blank while its thread has a request left, apply a request outside a turn of its thread
+-- what no entry does: give a blank while its thread has a request left, apply a request outside a turn of its thread, be of a call that has returned
 abbrev pub earlyBlank : Fields → Entry → List Entry → Bool
-earlyBlank f e past = runs 0 e && ltb (begunBy (e .thread) past) (length (getD (f .rows) (e .thread) []))
+earlyBlank f e past = is Blank e && ltb (begunBy (e .thread) past) (length (askedOf f (e .thread)))
 
 abbrev pub outsideTurn : Entry → List Entry → Bool
-outsideTurn e past = runs 16 e && not (combines (e .thread) past)
+outsideTurn e past = is Applies e && not (combines (e .thread) past)
+
+abbrev pub afterReturn : Entry → List Entry → Bool
+afterReturn e past = not (is Blank e) && returned (callOf e past) past
 
 abbrev pub SixteenBytes : List ℕ → Type 0
 SixteenBytes bytes = (length bytes ≡ 16) × Each Byte bytes
@@ -46,52 +58,61 @@ HasAnswer bytes mark value = (getD bytes 2 0 ≡ mark) × (take 4 (drop 4 bytes)
 
 -- a returned call: it was served, by its own thread exactly if it combined, and then in its own turn; it returns the answer that it was served;
 -- served by another thread it has at most 10 remote references, and having combined and served k at most 5k + 7
-pub record ReturnedCall (run : List Entry) (c : Call) (w : Shown) : Type 0 where
+pub record ReturnedCall (history : List Entry) (c : Call) (w : Shown) : Type 0 where
   pub served : retMark (w .ret) < 255
-  pub by-itself : eqb (w .server) (c .thread) ≡ combined c run
-  pub own-turn : combined c run ≡ true → w .turn ≡ turnOfCall c run
-  pub answer : returns c run ≡ w .ret
-  pub by-another : eqb (w .server) (c .thread) ≡ false → costOf c run ≤ 10
-  pub combining : combined c run ≡ true → costOf c run ≤ 5 * servedIn (turnOfCall c run) run + 7
+  pub by-itself : eqb (w .server .0) (c .thread .0) ≡ combined c history
+  pub own-turn : combined c history ≡ true → w .turn ≡ turnOfCall c history
+  pub answer : returns c history ≡ w .ret
+  pub by-another : eqb (w .server .0) (c .thread .0) ≡ false → costOf c history ≤ 10
+  pub combining : combined c history ≡ true → costOf c history ≤ 5 * servedIn (turnOfCall c history) history + 7
 
--- the claim about a file and the entries of its run, with s Swaps done and a requests applied
-pub record Holds (f : Fields) (run : List Entry) (s a : ℕ) : Type 0 where
-  -- 1, of the calls: each Swap's is one of the file's, no call does two, and no blank comes while a request is left
-  pub of-the-file : (i : ℕ) → i < s → swapAt run i .request < length (getD (f .rows) (swapAt run i .thread) [])
-  pub distinct : (i k : ℕ) → i < k → k < s → swapAt run i ≡ swapAt run k → ⊥
-  pub blanks : happened (earlyBlank f) run ≡ false
+-- the claim about a file and the history of its run, with s Swaps done and a requests applied
+pub record Holds (f : Fields) (history : List Entry) (s a : ℕ) : Type 0 where
+  -- 1, of the calls: each Swap's is one of the file's, no call does two, no blank comes while a request is left, and no entry of a call once it has returned
+  pub of-the-file : (i : ℕ) → i < s → swapAt history i .request < length (askedOf f (swapAt history i .thread))
+  pub distinct : (i k : ℕ) → i < k → k < s → swapAt history i ≡ swapAt history k → ⊥
+  pub blanks : happened (earlyBlank f) history ≡ false
+  pub over : happened afterReturn history ≡ false
   -- 1, of what is served: the calls, in order, are the first a of Swap order, each with its own request, and the answers are the plain object's
   pub at-most-swapped : a ≤ s
-  pub in-swap-order : map (λ (w : Serving). w .call) (servings run) ≡ take a (swapOrder run)
-  pub requests : map (λ (w : Serving). w .req) (servings run) ≡ map (λ (c : Call). Asked (askedBy f c)) (take a (swapOrder run))
-  pub answers : map (λ (w : Serving). w .answer) (servings run) ≡ take a (plainAnswers f run)
-  -- 2: there are s records of 16 bytes. Record i names the thread and request of Swap i and shows the plain object's answer i, or none from a on
-  pub records : length (recordsOf run) ≡ s
-  pub bytes : Each SixteenBytes (recordsOf run)
-  pub named : (i : ℕ) → i < s → take 2 (getD (recordsOf run) i []) ≡ swapAt run i .thread ∷ swapAt run i .request ∷ []
-  pub answered : (i : ℕ) → i < a
-      → HasAnswer (getD (recordsOf run) i []) (answerMark (getD (plainAnswers f run) i Empty)) (answerValue (getD (plainAnswers f run) i Empty))
-  pub unserved : (i : ℕ) → a ≤ i → i < s → HasAnswer (getD (recordsOf run) i []) 255 0
+  pub in-swap-order : map (λ (w : Serving). w .call) (servings history) ≡ take a (swapOrder history)
+  pub requests : map (λ (w : Serving). w .req) (servings history) ≡ map (λ (c : Call). Asked (askedBy f c)) (take a (swapOrder history))
+  pub answers : map (λ (w : Serving). w .answer) (servings history) ≡ map Answered (take a (plainAnswers f history))
+  -- 2: there are s records of 16 bytes. Record i names the thread and request of Swap i and shows the plain object's answer i, whose value has 32 bits, or
+  -- none from a on
+  pub records : length (recordsOf history) ≡ s
+  pub bytes : Each SixteenBytes (recordsOf history)
+  pub names : (i : ℕ) → i < s → take 2 (getD (recordsOf history) i []) ≡ swapAt history i .thread .0 ∷ swapAt history i .request ∷ []
+  pub shows-answer : (i : ℕ) → i < a
+      → HasAnswer (getD (recordsOf history) i []) (answerMark (getD (plainAnswers f history) i Empty)) (answerValue (getD (plainAnswers f history) i Empty))
+  pub shows-none : (i : ℕ) → a ≤ i → i < s → HasAnswer (getD (recordsOf history) i []) 255 0
+  pub value-fits : (c : Call) → retValue (shownOf c (servings history) .ret) < 2 ^ 32
   -- 3: at most one thread is combiner, and no other applies a request
-  pub one-combiner : (t u : ℕ) → combines t run ≡ true → combines u run ≡ true → t ≡ u
-  pub combiner-applies : happened outsideTurn run ≡ false
-  -- 4: no turn has served more than h; a turn's number has 16 bits and is not 65,535
-  pub at-most-h : (turn : ℕ) → servedIn turn run ≤ f .head .h
-  pub turns-fit : howMany 12 run < 65535
+  pub one-combiner : (t u : ThreadId) → combines t history ≡ true → combines u history ≡ true → t ≡ u
+  pub combiner-applies : happened outsideTurn history ≡ false
+  -- 4: no turn has served more than h; fewer than 65,535 turns begin, so a turn's number fits its two bytes and is never that of no turn
+  pub at-most-h : (turn : ℕ) → servedIn turn history ≤ f .head .h
+  pub turns-fit : howMany TurnBegins history < noTurn
+  pub turn-fits : (c : Call) → shownOf c (servings history) .turn ≤ noTurn
   -- 5: the bounds; bytes 8 to 11 are a call's remote references, which have 32 bits; and each access is remote as document 01 says
-  pub settled : (c : Call) → returned c run ≡ true → ReturnedCall run c (shownOf c (servings run))
-  pub cost : (i : ℕ) → i < s → take 4 (drop 8 (getD (recordsOf run) i [])) ≡ lowFirst 4 (costOf (swapAt run i) run)
-  pub cost-fits : (c : Call) → costOf c run < 2 ^ 32
-  pub remote : RemoteAsSaid run
+  pub settled : (c : Call) → returned c history ≡ true → ReturnedCall history c (shownOf c (servings history))
+  pub cost : (i : ℕ) → i < s → take 4 (drop 8 (getD (recordsOf history) i [])) ≡ lowFirst 4 (costOf (swapAt history i) history)
+  pub cost-fits : (c : Call) → costOf c history < 2 ^ 32
+  pub remote : RemoteAsSaid history
+
+-- the claim of a history by its own counts
+abbrev pub Claimed : Fields → List Entry → Type 0
+Claimed f history = Holds f history (howMany Swaps history) (howMany Applies history)
 
 -- the claim for the run stopped after j entries
-pub record Demand3 (f : Fields) (j : ℕ) (run : List Entry) (after : State) : Type 0 where
-  pub holds : Holds f run (howMany 5 run) (howMany 16 run)
-  -- 6: no entry is refused, so the run is the fold of the step; the machine's counts are those of the entries
+pub record Demand3 (f : Fields) (j : ℕ) (history : List Entry) (after : State) : Type 0 where
+  pub claim : Claimed f history
+  -- 6: no entry is refused, so the run is the fold of the step; the machine's counts are those of the entries, and it has begun the calls that they begin
   pub steps : stepsOf (startOf f) (take j (f .schedule)) ≡ record { refusal = 0; state = after }
-  pub counts : after .counts ≡ countsOf run
+  pub counts : after .counts ≡ countsOf history
+  pub begun : (t : ThreadId) → t .0 < f .head .n → getD (after .threads) (t .0) zeroThread .begun ≡ begunBy t history
   -- it is the run of the file with its schedule cut to j, which is a file again
-  pub stopped : reverse (entriesOf (cut j f)) ≡ run
+  pub stopped : historyOf (cut j f) ≡ history
   pub cut-file : InRange (cut j f)
 
 -- a file's claim, for every j; from the schedule's length on that is the whole run. The theorem is for all fields in range

@@ -2,4 +2,3 @@ pub mod Claims
 pub mod Entries
 pub mod Marked
 pub mod Result
-pub mod Terms

@@ -35,8 +35,8 @@ hasReturned = 1
 
 -- a record's 16 bytes, from thread, request, mark, value, serving thread, turn, remote references and byte 12: the order of the listing. Where it
 -- prints a hyphen the value is 0, the serving thread 255 and the turn 65,535
-abbrev pub row : ℕ → ℕ → ℕ → ℕ → ℕ → ℕ → ℕ → ℕ → List ℕ
-row thread request mark value server turn remote ended =
+abbrev pub listed : ℕ → ℕ → ℕ → ℕ → ℕ → ℕ → ℕ → ℕ → List ℕ
+listed thread request mark value server turn remote ended =
     thread ∷ request ∷ mark ∷ server ∷ lowFirst 4 value ++ lowFirst 4 remote ++ ended ∷ lowFirst 2 turn ++ 0 ∷ []
 
 -- the bytes of a file, and its result
@@ -68,21 +68,21 @@ putAndTake h zeros ones =
 -- in the order of document 01; the values of the third add and of the two puts and the stack's capacity are free there
 unfoldable pub markedRuns : List Marked
 markedRuns =
-    gives sixtyFour (counted 2 2 0 0 11) (row 0 0 value 0 0 0 9 hasReturned ∷ row 0 1 value 5 0 1 2 hasReturned ∷ [])
+    gives sixtyFour (counted 2 2 0 0 11) (listed 0 0 value 0 0 0 9 hasReturned ∷ listed 0 1 value 5 0 1 2 hasReturned ∷ [])
     -- a third add
     ∷ gives (alone Counter 0 (Add 5 ∷ Add 7 ∷ Add 9 ∷ []) 63) (counted 3 3 0 0 11)
-    (row 0 0 value 0 0 0 9 hasReturned ∷ row 0 1 value 5 0 1 2 hasReturned ∷ row 0 2 value 12 0 2 0 hasReturned ∷ [])
+    (listed 0 0 value 0 0 0 9 hasReturned ∷ listed 0 1 value 5 0 1 2 hasReturned ∷ listed 0 2 value 12 0 2 0 hasReturned ∷ [])
     -- 4, 5 and 43 entries
     ∷ gives (twoAdds 4) (counted 0 0 0 0 3) []
-    ∷ gives (twoAdds 5) (counted 1 0 0 0 4) (row 0 0 none 0 255 65535 4 stillOpen ∷ [])
-    ∷ gives (twoAdds 43) (counted 2 2 1 0 11) (row 0 0 value 0 0 0 9 hasReturned ∷ row 0 1 value 5 0 1 2 hasReturned ∷ [])
+    ∷ gives (twoAdds 5) (counted 1 0 0 0 4) (listed 0 0 none 0 255 65535 4 stillOpen ∷ [])
+    ∷ gives (twoAdds 43) (counted 2 2 1 0 11) (listed 0 0 value 0 0 0 9 hasReturned ∷ listed 0 1 value 5 0 1 2 hasReturned ∷ [])
     -- two threads, h = 8 and h = 1
-    ∷ gives (putAndTake 8 20 3) (counted 2 1 0 1 24) (row 0 0 done 0 0 0 14 hasReturned ∷ row 1 0 value 7 0 0 10 hasReturned ∷ [])
-    ∷ gives (putAndTake 1 13 13) (counted 2 2 0 1 20) (row 0 0 done 0 0 0 10 hasReturned ∷ row 1 0 value 7 1 1 10 hasReturned ∷ [])
+    ∷ gives (putAndTake 8 20 3) (counted 2 1 0 1 24) (listed 0 0 done 0 0 0 14 hasReturned ∷ listed 1 0 value 7 0 0 10 hasReturned ∷ [])
+    ∷ gives (putAndTake 1 13 13) (counted 2 2 0 1 20) (listed 0 0 done 0 0 0 10 hasReturned ∷ listed 1 0 value 7 1 1 10 hasReturned ∷ [])
     -- full and empty
-    ∷ gives (alone Queue 1 (Put 1 ∷ Put 2 ∷ []) 42) (counted 2 2 0 0 11) (row 0 0 done 0 0 0 9 hasReturned ∷ row 0 1 full 0 0 1 2 hasReturned ∷ [])
-    ∷ gives (alone Stack 1 (Take ∷ []) 21) (counted 1 1 0 0 9) (row 0 0 empty 0 0 0 9 hasReturned ∷ [])
+    ∷ gives (alone Queue 1 (Put 1 ∷ Put 2 ∷ []) 42) (counted 2 2 0 0 11) (listed 0 0 done 0 0 0 9 hasReturned ∷ listed 0 1 full 0 0 1 2 hasReturned ∷ [])
+    ∷ gives (alone Stack 1 (Take ∷ []) 21) (counted 1 1 0 0 9) (listed 0 0 empty 0 0 0 9 hasReturned ∷ [])
     -- the sum past 4,294,967,295
     ∷ gives (alone Counter 0 (Add 4_294_967_295 ∷ Add 1 ∷ Add 0 ∷ []) 63) (counted 3 3 0 0 11)
-    (row 0 0 value 0 0 0 9 hasReturned ∷ row 0 1 value 4_294_967_295 0 1 2 hasReturned ∷ row 0 2 value 0 0 2 0 hasReturned ∷ [])
+    (listed 0 0 value 0 0 0 9 hasReturned ∷ listed 0 1 value 4_294_967_295 0 1 2 hasReturned ∷ listed 0 2 value 0 0 2 0 hasReturned ∷ [])
     ∷ []

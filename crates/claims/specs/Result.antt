@@ -1,10 +1,10 @@
 -- The result of a file's run, from its bytes: refusal, counts and records. What becomes of it with too few bytes lent is in bench/specs/Run.antt.
 use Prim.Native.Nat.{ℕ}
-use mathlib.Core.List.{List, [], reverse}
+use mathlib.Core.List.{List, []}
 use Rattle.bench_file.specs.Layout.{Judgement, accepted, refusedBy, judgeOf}
 use Rattle.state.specs.declared.Counts.{Counts}
-use Rattle.claims.specs.Entries.{entriesOf}
-use Rattle.claims.specs.Terms.{recordsOf, countsOf}
+use Rattle.history.specs.Terms.{recordsOf, countsOf}
+use Rattle.claims.specs.Entries.{historyOf}
 
 -- the result of a file: its refusal, 0 for none; the five counts; the records, 16 bytes each, in Swap order
 pub record Result : Type 0 where
@@ -21,9 +21,9 @@ abbrev pub refusedResult : ℕ → Result
 refusedResult number = record { refusal = number; counts = counted 0 0 0 0 0; records = [] }
 
 -- a file that is accepted is run
-abbrev pub ranIf : Judgement → Result
-ranIf (accepted f) = let run = reverse (entriesOf f) in record { refusal = 0; counts = countsOf run; records = recordsOf run }
-ranIf (refusedBy number) = refusedResult number
+abbrev pub resultAs : Judgement → Result
+resultAs (accepted f) = let history = historyOf f in record { refusal = 0; counts = countsOf history; records = recordsOf history }
+resultAs (refusedBy number) = refusedResult number
 
 abbrev pub resultOf : List ℕ → Result
-resultOf bytes = ranIf (judgeOf bytes)
+resultOf bytes = resultAs (judgeOf bytes)

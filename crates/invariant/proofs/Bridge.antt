@@ -11,26 +11,26 @@ use Rattle.state.specs.declared.State.{State}
 use Rattle.state.proofs.RangeFacts.{state-fits}
 use Rattle.step.specs.Entry.{zeroThread, zeroNode, named, line, target, request, applied, effect, entered}
 use Rattle.step.specs.Numbers.{number}
-use Rattle.step.proofs.Numbers.{number-of, Runs}
+use Rattle.step.proofs.Numbers.{number-of, RunsNext}
 use Rattle.step.proofs.Outcome.{room, runs-line, target-in-range}
 use Rattle.step.proofs.Soundness.{Sound}
 use Rattle.invariant.specs.View.{viewOf, Does}
 
 module _ (s : State) (t : ThreadId) (sound : Sound s) (below : t .0 < s .n) where
-  ran : Runs (named s t .line) (ltb (named s t .begun) (named s t .count)) (line s t)
-  ran = runs-line s t (sound .shape) (sound .range) below
+  runs-it : RunsNext (named s t .line) (ltb (named s t .begun) (named s t .count)) (line s t)
+  runs-it = runs-line s t (sound .shape) (sound .range) below
 
   pub number-line : number (lineOf (line s t)) ≡ line s t
-  number-line = number-of (line s t) (ran .printed)
+  number-line = number-of (line s t) (runs-it .printed)
 
   -- an idle thread that begins a call has a request left
   pub idle-begins : line s t ≡ 1 → named s t .begun < named s t .count
-  idle-begins e = ltb-true _ _ (ran .begins e)
+  idle-begins e = ltb-true _ _ (runs-it .begins e)
 
   pub does-of : Does (s .n) (s .h) (viewOf s) (viewOf (entered s t)) (t .0) (lineOf (line s t)) (request s t) (applied s t .answer)
   does-of = record {
     below = below;
-    stands = rw number-line (ran .stands);
+    stands = rw number-line (runs-it .stands);
     mine = getD-set-same (s .threads) (t .0) (effect s t .thread) zeroThread (omega (arith, room s t (sound .shape) (sound .range) below));
     others = λ u apart. getD-set-other (s .threads) (t .0) u (effect s t .thread) zeroThread apart;
     there =

@@ -17,8 +17,9 @@ use Rattle.machine.specs.declared.Field.{Field}
 use Rattle.machine.specs.declared.Field.the-variants.{Req, Ret, Wait, Completed, Next}
 use Rattle.machine.specs.declared.SharedAccess.{SharedAccess}
 use Rattle.machine.specs.declared.SharedAccess.the-variants.{NoAccess, Read, Write, Swap}
-use Rattle.machine.specs.Lines.{Line, Blank, L1, L2, L3, L4, L5, L6, L7, L8, L9, L10, L11, L12, L13, L14, L15, L16, L17, L18, L19, L20, L21, rowOf, pointed, Location, tail, part, Access, read, write, accessTo, accessesOf}
+use Rattle.machine.specs.Lines.{Line, L0, L1, L2, L3, L4, L5, L6, L7, L8, L9, L10, L11, L12, L13, L14, L15, L16, L17, L18, L19, L20, L21, rowOf, pointed, Location, tail, part, Access, read, write, accessTo, accessesOf}
 use Rattle.machine.proofs.Written.{writtenFrom, told}
+use Rattle.machine.specs.Sizes.{mostLocations}
 use Rattle.step.specs.Numbers.{number, standsAt}
 use Rattle.object.specs.Each.{Each}
 use Rattle.object.proofs.Each.{each-left, each-right, each-map}
@@ -29,7 +30,7 @@ use Rattle.invariant.specs.Ledger.{Ledger}
 use Rattle.invariant.specs.View.{View, Does, goal}
 use Rattle.invariant.specs.Control.{Slot, slot, slotOfThread, held, waitRow, StageFacts, Order, Control}
 use Rattle.invariant.specs.Remote.{among}
-use Rattle.invariant.proofs.Upd.{by-equal}
+use Rattle.object.proofs.Choice.{by-equal}
 use Rattle.invariant.proofs.Slots.{in-queue}
 use Rattle.invariant.proofs.Seats.{holding, holds, now, stage-at, node-bound, owner, whose}
 use Rattle.invariant.proofs.Copies.{either, Misses, Placed}
@@ -44,7 +45,7 @@ made v t l = accessesOf (rowOf l) (aimed v t l)
 -- an entry: thread t of n, at most 16, runs line l, with these copies before it
 pub record Entering (n h : ℕ) (v v′ : View) (g : Ledger) (t : ℕ) (l : Line) (request : Request) (answer : Answer) (copies : List ℕ) : Type 0 where
   pub small : n ≤ 16
-  pub len : length copies ≡ 86
+  pub len : length copies ≡ mostLocations
   pub control : Control n h v g
   pub does : Does n h v v′ t l request answer
 
@@ -159,7 +160,7 @@ module _ {n h : ℕ} {v v′ : View} {g : Ledger} {t : ℕ} {l : Line} {request 
   pub mine : (s : Stage) → stageOf (standsAt (number l)) ≡ s → Standing n h v g t s
   mine s e = subst (λ (s : Stage). Standing n h v g t s) (ap stageOf (en .does .stands) ∙ e) (standing (en .control) t (en .does .below))
 
-  place-of : (m : NodeId) → m .0 ≤ n → (f : Field) → place (part m f) < 86
+  place-of : (m : NodeId) → m .0 ≤ n → (f : Field) → place (part m f) < mostLocations
   place-of m i f = omega (arith, field-number-below f, en .small)
 
   look : (m : NodeId) → m .0 ≤ n → (f : Field) → Touch m (read (part m f))
@@ -201,7 +202,7 @@ module _ {n h : ℕ} {v v′ : View} {g : Ledger} {t : ℕ} {l : Line} {request 
 module _ {n h : ℕ} {v v′ : View} {g : Ledger} {t : ℕ} {request : Request} {answer : Answer} {copies : List ℕ} where
   -- the accesses of thread t's line
   touches : (l : Line) (en : Entering n h v v′ g t l request answer copies) → Each (Touch en (aimed v t l)) (made v t l)
-  touches Blank en = tt
+  touches L0 en = tt
   touches L1 en = tt
   touches L2 en = (change-own en o2 refl Next, tt)
   touches L3 en = (change-own en o3 refl Wait, tt)

@@ -10,13 +10,13 @@ use borrow.Author.Tests.{eqb-true}
 use Rattle.machine.specs.declared.NodeId.{NodeId}
 use Rattle.machine.specs.declared.Field.{Field}
 use Rattle.machine.specs.declared.Field.the-variants.{Req}
-use Rattle.machine.specs.Effect.{null}
-use Rattle.machine.specs.Lines.{Location, tail, part, Access, read, write, swap}
+use Rattle.machine.specs.Lines.{fieldNumber, Location, tail, part, Access, read, write, swap, null}
+use Rattle.machine.specs.Sizes.{mostLocations}
 use Rattle.object.specs.Each.{Each}
-use Rattle.copies.specs.Remote.{fieldNumber, place, located, holds, remoteOf, copiesAfter, referred}
+use Rattle.copies.specs.Remote.{place, located, hasCopyOf, remoteOf, copiesAfter, referred}
 use Rattle.copies.proofs.Holding.{place-injective, elsewhere-kept, read-kept, own-held, Ends}
 use Rattle.invariant.specs.Remote.{among, Copied}
-use Rattle.invariant.proofs.Upd.{by-equal}
+use Rattle.object.proofs.Choice.{by-equal}
 
 abbrev fieldOf : Location → Field
 fieldOf tail = Req
@@ -60,7 +60,7 @@ At m (part m′ f) = m′ ≡ m
 
 -- among the copies, and of this node
 pub record Placed (m : NodeId) (a : Access) : Type 0 where
-  pub fits : place (located a) < 86
+  pub fits : place (located a) < mostLocations
   pub there : At m (located a)
 
 -- the remote references of accesses to a node, and the fields of it that are copied after them, given fields that are copied
@@ -81,9 +81,9 @@ allGained fields [] = fields
 allGained fields (a ∷ rest) = allGained (gained fields (located a)) rest
 
 -- an access is remote at most, and not if its thread has a copy
-pub remote-most : (copies : List ℕ) (u : ℕ) (a : Access) (b : Bool) → (T b → holds copies u (located a) ≡ true) → remoteOf copies u a ≤ cond b 0 1
+pub remote-most : (copies : List ℕ) (u : ℕ) (a : Access) (b : Bool) → (T b → hasCopyOf copies u (located a) ≡ true) → remoteOf copies u a ≤ cond b 0 1
 remote-most copies u a true h = rw (h tt) (omega arith)
-remote-most copies u a false h = by-test (holds copies u (located a))
+remote-most copies u a false h = by-test (hasCopyOf copies u (located a))
   where
     by-test : (b : Bool) → cond b 0 1 ≤ 1
     by-test true = omega arith
@@ -91,8 +91,8 @@ remote-most copies u a false h = by-test (holds copies u (located a))
 
 module _ (n t : ℕ) (k : t < n) (small : n ≤ 16) where
   -- after one access
-  kept-after : (copies : List ℕ) → length copies ≡ 86 → (a : Access) → place (located a) < 86 → (u : ℕ) (x : Location)
-      → ((u ≡ t → ⊥) → Misses x a) → holds copies u x ≡ true → holds (copiesAfter n t a copies) u x ≡ true
+  kept-after : (copies : List ℕ) → length copies ≡ mostLocations → (a : Access) → place (located a) < mostLocations → (u : ℕ) (x : Location)
+      → ((u ≡ t → ⊥) → Misses x a) → hasCopyOf copies u x ≡ true → hasCopyOf (copiesAfter n t a copies) u x ≡ true
   kept-after copies len a fits u x miss h =
       by-equal (place x) (place (located a))
       (λ e. here (place-injective x (located a) e))
@@ -101,33 +101,33 @@ module _ (n t : ℕ) (k : t < n) (small : n ≤ 16) where
       inside : place (located a) < length copies
       inside = omega arith
 
-      apart : (a : Access) → place (located a) < length copies → (u ≡ t → ⊥) → ((u ≡ t → ⊥) → Ends a → ⊥) → holds copies u (located a) ≡ true
-          → holds (copiesAfter n t a copies) u (located a) ≡ true
+      apart : (a : Access) → place (located a) < length copies → (u ≡ t → ⊥) → ((u ≡ t → ⊥) → Ends a → ⊥) → hasCopyOf copies u (located a) ≡ true
+          → hasCopyOf (copiesAfter n t a copies) u (located a) ≡ true
       apart (read l) i d z h = read-kept n t copies l u i d ∙ h
       apart (write l) i d z h = absurd (z d tt)
       apart (swap l) i d z h = absurd (z d tt)
 
-      here : x ≡ located a → holds (copiesAfter n t a copies) u x ≡ true
+      here : x ≡ located a → hasCopyOf (copiesAfter n t a copies) u x ≡ true
       here e =
           rw e (by-equal u t
           (λ same. rw same (own-held n t copies k small a inside))
           (λ d. apart a inside d (λ d r. miss d r (sym e)) (rw e at h)))
 
   -- after a list of accesses: a copy is lost only by another thread's write
-  pub kept : (accesses : List Access) (copies : List ℕ) → length copies ≡ 86 → (m : NodeId) → Each (Placed m) accesses → (u : ℕ) (x : Location)
-      → ((u ≡ t → ⊥) → Each (Misses x) accesses) → holds copies u x ≡ true → holds (referred n t copies accesses .copies) u x ≡ true
+  pub kept : (accesses : List Access) (copies : List ℕ) → length copies ≡ mostLocations → (m : NodeId) → Each (Placed m) accesses → (u : ℕ) (x : Location)
+      → ((u ≡ t → ⊥) → Each (Misses x) accesses) → hasCopyOf copies u x ≡ true → hasCopyOf (referred n t copies accesses .copies) u x ≡ true
   kept [] copies len m p u x miss h = h
   kept (a ∷ rest) copies len m p u x miss h =
       kept rest (copiesAfter n t a copies) (length-set copies _ _ ∙ len) m (p .1) u x (λ d. miss d .1)
       (kept-after copies len a (p .0 .fits) u x (λ d. miss d .0) h)
 
   -- the thread's own copies stay
-  pub own-kept : (accesses : List Access) (copies : List ℕ) → length copies ≡ 86 → (m′ : NodeId) → Each (Placed m′) accesses → (m : NodeId) (fields : List Field)
+  pub own-kept : (accesses : List Access) (copies : List ℕ) → length copies ≡ mostLocations → (m′ : NodeId) → Each (Placed m′) accesses → (m : NodeId) (fields : List Field)
       → Copied copies t m fields → Copied (referred n t copies accesses .copies) t m fields
   own-kept accesses copies len m′ p m fields h f x = kept accesses copies len m′ p t (part m f) (λ d. absurd (d refl)) (h f x)
 
   -- one access to a node of which some fields are copied
-  paid-one : (copies : List ℕ) → length copies ≡ 86 → (m : NodeId) (fields : List Field) (a : Access) → Placed m a → Copied copies t m fields
+  paid-one : (copies : List ℕ) → length copies ≡ mostLocations → (m : NodeId) (fields : List Field) (a : Access) → Placed m a → Copied copies t m fields
       → (remoteOf copies t a ≤ price fields (located a)) × Copied (copiesAfter n t a copies) t m (gained fields (located a))
   paid-one copies len m fields a p h = by-place (located a) refl (p .there)
     where
@@ -140,8 +140,8 @@ module _ (n t : ℕ) (k : t < n) (small : n ≤ 16) where
           let at : located a ≡ part m f′ = e ∙ ap (λ (q : NodeId). part q f′) z in (
             remote-most copies t a (among fields f′) (λ x. rw at (h f′ x)),
             λ f.
-                by-front (λ f. holds (copiesAfter n t a copies) t (part m f) ≡ true) f′ fields f
-                (subst (λ (l : Location). holds (copiesAfter n t a copies) t l ≡ true) at (own-held n t copies k small a (omega (arith, p .fits))))
+                by-front (λ f. hasCopyOf (copiesAfter n t a copies) t (part m f) ≡ true) f′ fields f
+                (subst (λ (l : Location). hasCopyOf (copiesAfter n t a copies) t l ≡ true) at (own-held n t copies k small a (omega (arith, p .fits))))
                 (stays f),
           )
 
@@ -149,7 +149,7 @@ module _ (n t : ℕ) (k : t < n) (small : n ≤ 16) where
     pub most : referred n t copies accesses .remote ≤ prices fields accesses
     pub copied : Copied (referred n t copies accesses .copies) t m (allGained fields accesses)
 
-  pub paid : (accesses : List Access) (copies : List ℕ) → length copies ≡ 86 → (m : NodeId) (fields : List Field) → Each (Placed m) accesses
+  pub paid : (accesses : List Access) (copies : List ℕ) → length copies ≡ mostLocations → (m : NodeId) (fields : List Field) → Each (Placed m) accesses
       → Copied copies t m fields → Paid accesses copies m fields
   paid [] copies len m fields p h = record { most = omega arith; copied = h }
   paid (a ∷ rest) copies len m fields p h =

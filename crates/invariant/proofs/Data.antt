@@ -22,8 +22,9 @@ use Rattle.machine.specs.declared.Announced.the-variants.{Asked}
 use Rattle.machine.specs.declared.RetVal.the-variants.{Answered}
 use Rattle.machine.specs.declared.Node.{Node}
 use Rattle.machine.specs.declared.Thread.{Thread}
-use Rattle.machine.specs.Lines.{Line, Blank, L1, L2, L3, L4, L5, L6, L7, L8, L9, L10, L11, L12, L13, L14, L15, L16, L17, L18, L19, L20, L21}
-use Rattle.machine.specs.Effect.{isNull, isEmptyReq, isEmptyRet, usesEmpty, takesOut}
+use Rattle.machine.specs.declared.Event.the-variants.{Swaps, Applies}
+use Rattle.machine.specs.Lines.{Line, rowOf, sameEvent, L0, L1, L2, L3, L4, L5, L6, L7, L8, L9, L10, L11, L12, L13, L14, L15, L16, L17, L18, L19, L20, L21, isNull}
+use Rattle.machine.specs.Effect.{isEmptyReq, isEmptyRet, usesEmpty, takesOut}
 use Rattle.state.specs.Range.{reqInRange}
 use Rattle.step.specs.Numbers.{number, standsAt}
 use Rattle.step.proofs.Numbers.{number-most, by-last}
@@ -33,7 +34,8 @@ use Rattle.invariant.specs.View.{View, goal, does, Does}
 use Rattle.invariant.specs.Control.{Control}
 use Rattle.invariant.specs.Data.{plainAfter, openRequest, appliedBy, grown, CallData, Data}
 use Rattle.invariant.proofs.Feeding.{answers-next, after-next}
-use Rattle.invariant.proofs.Upd.{by-equal, upd-same, upd-other}
+use Rattle.object.proofs.Choice.{by-equal}
+use Rattle.invariant.proofs.Upd.{upd-same, upd-other}
 use Rattle.invariant.proofs.Seats.{node-bound, known}
 use Rattle.invariant.proofs.Threads.{inQueue, Linked, node-cur, at-below, curs-apart, serving, last-points}
 
@@ -223,9 +225,9 @@ module _ {n h : ℕ} {v : View} {g : Ledger} (c : Control n h v g) {requests : �
   -- every line keeps the data invariant
   pub data-kept : {v′ : View} {t : ℕ} (l : Line) → Does n h v v′ t l (openRequest requests v t) (appliedBy kind capacity ob v t l .answer)
       → objectInRange kind capacity ob ≡ true → length (ob .items) ≡ 64 → reqInRange kind (v .node (goal v t l) .req) ≡ true
-      → Data n requests kind capacity v′ (noted n t (v .thread t .own .0) g l) (grown (eqb (number l) 5) jobs (openRequest requests v t))
-      (grown (eqb (number l) 16) answers (appliedBy kind capacity ob v t l .answer)) (appliedBy kind capacity ob v t l .object)
-  data-kept Blank d range long known = quiet d refl refl refl refl refl (λ q. absurd (rw (d .stands) at q))
+      → Data n requests kind capacity v′ (noted n t (v .thread t .own .0) g l) (grown (sameEvent (rowOf l .event) Swaps) jobs (openRequest requests v t))
+      (grown (sameEvent (rowOf l .event) Applies) answers (appliedBy kind capacity ob v t l .answer)) (appliedBy kind capacity ob v t l .object)
+  data-kept L0 d range long known = quiet d refl refl refl refl refl (λ q. absurd (rw (d .stands) at q))
   data-kept L1 d range long known = quiet d refl refl refl refl refl (λ q. absurd q)
   data-kept L2 d range long known = quiet d refl refl refl refl refl (λ q. absurd q)
   data-kept L3 d range long known = quiet d refl refl refl refl refl (λ q. absurd q)

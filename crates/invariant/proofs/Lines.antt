@@ -9,13 +9,14 @@ use Rattle.object.specs.declared.Request.{Request}
 use Rattle.object.specs.declared.Answer.{Answer}
 use Rattle.machine.specs.declared.Node.{Node}
 use Rattle.machine.specs.declared.Thread.{Thread}
-use Rattle.machine.specs.Lines.{Line, Blank, L1, L2, L3, L4, L5, L6, L7, L8, L9, L10, L11, L12, L13, L14, L15, L16, L17, L18, L19, L20, L21}
-use Rattle.machine.specs.Effect.{isNull, goes}
+use Rattle.machine.specs.Lines.{Line, L0, L1, L2, L3, L4, L5, L6, L7, L8, L9, L10, L11, L12, L13, L14, L15, L16, L17, L18, L19, L20, L21, isNull}
+use Rattle.machine.specs.Effect.{goes}
 use Rattle.invariant.specs.Stages.{queued}
 use Rattle.invariant.specs.Ledger.{Ledger, noted}
 use Rattle.invariant.specs.View.{View, Does}
 use Rattle.invariant.specs.Control.{slot, slotOfThread, NodeFields, StageFacts, Control}
-use Rattle.invariant.proofs.Upd.{upd-same, upd-other, by-equal, by-order}
+use Rattle.object.proofs.Choice.{by-equal, by-order}
+use Rattle.invariant.proofs.Upd.{upd-same, upd-other}
 use Rattle.invariant.proofs.Waits.{waits-below, waits-turn, waits-free, waits-held}
 use Rattle.invariant.proofs.Seats.{holding, stage-at, known, seats-apart, fields-at, node-bound, linked-below}
 use Rattle.invariant.proofs.Frame.{no-links, kept, wrote, from, home, far}
@@ -163,7 +164,7 @@ module _ (n h : ℕ) (small : n ≤ 16) (some : 0 < h) (v v′ : View) (g : Ledg
 
   -- the invariant is kept, by line
   pub control-kept : (l : Line) → Does n h v v′ t l request answer → Control n h v′ (noted n t (v .thread t .own .0) g l)
-  control-kept Blank run = home c run _ (ap (goes th) (run .stands)) refl tt refl no-links (kept run refl _) (λ q k. q) (knows run)
+  control-kept L0 run = home c run _ (ap (goes th) (run .stands)) refl tt refl no-links (kept run refl _) (λ q k. q) (knows run)
   control-kept L1 run = home c run _ refl refl tt refl no-links (kept run refl _) (λ q k. q) (search (arith, absurd))
   control-kept L2 run = let f = knows run in home c run _ refl refl tt refl no-links (wrote run) (λ q k. q) (search (arith, f))
   control-kept L3 run = let f = knows run in home c run _ refl refl tt refl no-links (wrote run) (λ q k. q) (search (arith, f))

@@ -10,7 +10,8 @@ use Rattle.step.specs.Entry.{oneIf}
 use Rattle.step.specs.Numbers.{number}
 use Rattle.step.proofs.Numbers.{each-line}
 use Rattle.invariant.specs.Ledger.{Ledger, swapped, noted}
-use Rattle.invariant.proofs.Upd.{by-equal, upd-same, upd-other}
+use Rattle.object.proofs.Choice.{by-equal}
+use Rattle.invariant.proofs.Upd.{upd-same, upd-other}
 
 -- thread t's line k makes g into g′: it raises counts, and positions change at a Swap alone
 pub record Notes (n t own : ℕ) (g : Ledger) (k : ℕ) (g′ : Ledger) : Type 0 where

@@ -10,8 +10,8 @@ use Rattle.object.specs.declared.Answer.{Answer}
 use Rattle.machine.specs.declared.NodeId.{NodeId}
 use Rattle.machine.specs.declared.Field.{Field}
 use Rattle.machine.specs.declared.Field.the-variants.{Req, Wait, Next}
-use Rattle.machine.specs.Effect.{isNull, goes}
-use Rattle.machine.specs.Lines.{Line, Blank, L1, L2, L3, L4, L5, L6, L7, L8, L9, L10, L11, L12, L13, L14, L15, L16, L17, L18, L19, L20, L21, part, read}
+use Rattle.machine.specs.Effect.{goes}
+use Rattle.machine.specs.Lines.{Line, L0, L1, L2, L3, L4, L5, L6, L7, L8, L9, L10, L11, L12, L13, L14, L15, L16, L17, L18, L19, L20, L21, part, read, isNull}
 use Rattle.step.specs.Numbers.{number, standsAt}
 use Rattle.object.specs.Each.{Each}
 use Rattle.copies.specs.Remote.{Referred, referred}
@@ -20,7 +20,7 @@ use Rattle.invariant.specs.Ledger.{Ledger}
 use Rattle.invariant.specs.View.{View, does}
 use Rattle.invariant.specs.Control.{combineRow}
 use Rattle.invariant.specs.Remote.{Within, turnCost, nextCopied, Rounds, Spent}
-use Rattle.invariant.proofs.Upd.{by-equal}
+use Rattle.object.proofs.Choice.{by-equal}
 use Rattle.invariant.proofs.Copies.{among-all, allAmong, Placed, prices, allGained, paid, own-kept, remote-most}
 use Rattle.invariant.proofs.Clear.{aimed, made, Entering, mine, placed}
 
@@ -93,7 +93,7 @@ module _ {n h : ℕ} {v v′ : View} {g : Ledger} {t : ℕ} {request : Request} 
         → Spent (stageOf (standsAt (number l))) copies t (v .thread t) (v .node (v .thread t .cur .0) .wait) cost
         → Spent (stageOf (does v t l h request answer .thread .line)) (afterLine n v t copies l .copies) t (does v t l h request answer .thread) waits
         (cond (eqb (number l) 1) 0 cost + afterLine n v t copies l .remote)
-    own-line Blank en s = rw (en .does .stands) absurd
+    own-line L0 en s = rw (en .does .stands) absurd
     own-line L1 en s = λ _. omega arith
     own-line L2 en s = λ _. omega (arith, s tt, once en)
     own-line L3 en s = λ _. omega (arith, s tt, once en)

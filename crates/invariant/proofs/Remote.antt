@@ -14,15 +14,17 @@ use Rattle.machine.specs.declared.Thread.{Thread}
 use Rattle.machine.specs.declared.Field.{Field}
 use Rattle.machine.specs.declared.Field.the-variants.{Req, Wait, Next}
 use Rattle.machine.specs.Lines.{Line, Location, part, read}
+use Rattle.machine.specs.Sizes.{mostLocations}
 use Rattle.step.specs.Numbers.{number, standsAt}
 use Rattle.step.proofs.Numbers.{by-line}
-use Rattle.copies.specs.Remote.{holds}
+use Rattle.copies.specs.Remote.{hasCopyOf}
 use Rattle.invariant.specs.Stages.{Stage, Wait as Waiting, w6, w7, w8, w9, w10, w11, w12, out, wait, combine, l19, l21, dummy, stageOf}
 use Rattle.invariant.specs.Ledger.{Ledger, upd}
 use Rattle.invariant.specs.View.{View, Does}
 use Rattle.invariant.specs.Control.{combineRow, Control}
 use Rattle.invariant.specs.Remote.{among, Within, waitCost, Spent, Remote}
-use Rattle.invariant.proofs.Upd.{by-equal, upd-same, upd-other}
+use Rattle.object.proofs.Choice.{by-equal}
+use Rattle.invariant.proofs.Upd.{upd-same, upd-other}
 use Rattle.invariant.proofs.Copies.{among-all, remote-most, kept}
 use Rattle.invariant.proofs.Clear.{made, aimed, Entering, Standing, standing, onlyHolders, settles, Clear, clear-fields, clear-wait, clear-tmp, placed, missed, wait-kept}
 use Rattle.invariant.proofs.OwnLine.{afterLine, at-cur, once, own-line}
@@ -45,7 +47,7 @@ module _ {n h : ℕ} {v v′ : View} {g : Ledger} {t : ℕ} {l : Line} {request 
     (en : Entering n h v v′ g t l request answer copies) where
   -- another thread keeps its copies
   module _ {u : ℕ} (apart : u ≡ t → ⊥) where
-    other-kept : (x : Location) → Clear en x → holds copies u x ≡ true → holds (afterLine n v t copies l .copies) u x ≡ true
+    other-kept : (x : Location) → Clear en x → hasCopyOf copies u x ≡ true → hasCopyOf (afterLine n v t copies l .copies) u x ≡ true
     other-kept x clear = kept n t (en .does .below) (en .small) (made v t l) copies (en .len) (aimed v t l) (placed en) u x (λ _. missed en x clear)
 
     within-kept : {cur tmp : NodeId} {cost bound : ℕ} {ofCur ofTmp : List Field} → Within copies u cur tmp cost bound ofCur ofTmp
@@ -69,7 +71,7 @@ module _ {n h : ℕ} {v v′ : View} {g : Ledger} {t : ℕ} {l : Line} {request 
           omega (
             arith,
             s .1 spins (sym (wait-kept en (v .thread u .cur) clear) ∙ on),
-            remote-most (afterLine n v t copies l .copies) u (read x) (holds copies u x) (λ b. other-kept x clear (is-true _ b)),
+            remote-most (afterLine n v t copies l .copies) u (read x) (hasCopyOf copies u x) (λ b. other-kept x clear (is-true _ b)),
           ),
     )
     other-line cost (combine w) stand s = (
@@ -84,7 +86,7 @@ module _ {n h : ℕ} {v v′ : View} {g : Ledger} {t : ℕ} {l : Line} {request 
     other-line cost dummy stand s = tt
 
 module _ {n h : ℕ} {v v′ : View} {g : Ledger} {t : ℕ} {request : Request} {answer : Answer} {copies : List ℕ} {cost : ℕ → ℕ}
-    (small : n ≤ 16) (len : length copies ≡ 86) (control : Control n h v g) (remote : Remote n v copies cost) where
+    (small : n ≤ 16) (len : length copies ≡ mostLocations) (control : Control n h v g) (remote : Remote n v copies cost) where
   entering : {l : Line} → Does n h v v′ t l request answer → Entering n h v v′ g t l request answer copies
   entering d = record { small = small; len = len; control = control; does = d }
 

@@ -13,7 +13,7 @@ use Rattle.invariant.specs.Stages.{Stage, stageOf, queued}
 use Rattle.invariant.specs.Ledger.{Ledger}
 use Rattle.invariant.specs.View.{View, Does}
 use Rattle.invariant.specs.Control.{slot, slotOfThread, held, Queued, NodeFields, StageFacts, DummyFacts, Control}
-use Rattle.invariant.proofs.Upd.{by-equal}
+use Rattle.object.proofs.Choice.{by-equal}
 use Rattle.invariant.proofs.Slots.{slot-tail, slot-thread, held-queued, in-queue, at-swapped, at-turn, turn-queued, atTurn}
 
 -- the node that a thread holds at a stage

@@ -9,7 +9,7 @@ use Rattle.invariant.specs.Stages.{Stage, Combine, c13, c14, c15, c16, c
 use Rattle.invariant.specs.Ledger.{Ledger}
 use Rattle.invariant.specs.View.{View}
 use Rattle.invariant.specs.Control.{Slot, slot, held, waits, NodeFields, Queued, Even, WaitRow, WaitFacts, CombineFacts, combineRow, Turn, Facts19, Facts21, DummyFacts, StageFacts, Order, Control}
-use Rattle.invariant.proofs.Upd.{by-equal}
+use Rattle.object.proofs.Choice.{by-equal}
 use Rattle.invariant.proofs.Waits.{waits-below, waits-free}
 use Rattle.invariant.proofs.Seats.{linked-below}
 

@@ -13,7 +13,8 @@ use Rattle.invariant.specs.Stages.{wait, w6, queued}
 use Rattle.invariant.specs.Ledger.{Ledger, swapped}
 use Rattle.invariant.specs.View.{View, Does}
 use Rattle.invariant.specs.Control.{slot, slotOfThread, slotOfTail, held, Queued, WaitFacts, waitRow, DummyFacts, StageFacts, Seat, Control}
-use Rattle.invariant.proofs.Upd.{upd-same, upd-other, by-equal, by-two, exchange, exchange-first, exchange-second, exchange-other, exchange-twice}
+use Rattle.object.proofs.Choice.{by-equal}
+use Rattle.invariant.proofs.Upd.{upd-same, upd-other, by-two, exchange, exchange-first, exchange-second, exchange-other, exchange-twice}
 use Rattle.invariant.proofs.Noted.{at-swap, at-kept, node-kept}
 use Rattle.invariant.proofs.Waits.{waits-beyond}
 use Rattle.invariant.proofs.Slots.{slot-thread, slot-tail}

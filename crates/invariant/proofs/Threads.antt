@@ -8,8 +8,8 @@ use lib.ListN.{drop, take, length-drop, List·getD-eq-default}
 use lib.Seq.{getD-drop}
 use Rattle.object.specs.declared.Request.{Request}
 use Rattle.object.specs.declared.Answer.{Answer}
+use Rattle.object.specs.Each.{every}
 use Rattle.machine.specs.Lines.{Line}
-use Rattle.state.specs.Range.{every}
 use Rattle.state.proofs.Kept.{first-at}
 use Rattle.step.specs.Numbers.{number}
 use Rattle.step.proofs.Numbers.{by-line, by-last}
@@ -17,7 +17,7 @@ use Rattle.invariant.specs.Stages.{Stage, dummy, stages, stageOf, queued
 use Rattle.invariant.specs.Ledger.{Ledger}
 use Rattle.invariant.specs.View.{View, goal, Does}
 use Rattle.invariant.specs.Control.{slotOfThread, slot, held, Control}
-use Rattle.invariant.proofs.Upd.{by-order}
+use Rattle.object.proofs.Choice.{by-order}
 use Rattle.invariant.proofs.Slots.{slot-thread, held-queued, atTurn}
 use Rattle.invariant.proofs.Seats.{node-of, one-turn, tail-facts, before-tail, linked-below, stage-at, now, known}
 

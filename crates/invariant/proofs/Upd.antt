@@ -1,10 +1,8 @@
--- A function with one value changed, and a choice by two numbers. Assumes nothing.
-use Prim.Native.Nat.{ℕ, _≤_, _<_}
-use native.Mathlib.Decide.{ℕ-discrete}
+-- A function with one value changed. Assumes nothing.
+use Prim.Native.Nat.{ℕ}
 use mathlib.Core.Path.{_≡_, refl, sym, _∙_, subst}
-use mathlib.Core.Bool.{Bool, true, false}
-use lib.Dec.{ltb}
-use borrow.Author.Tests.{eq-eqb, ne-eqb, ltb-true, ltb-false}
+use borrow.Author.Tests.{eq-eqb, ne-eqb}
+use Rattle.object.proofs.Choice.{by-equal}
 use Rattle.invariant.specs.Ledger.{upd}
 
 pub upd-same : {A : Type 0} (f : ℕ → A) (k : ℕ) (x : A) → upd f k x k ≡ x
@@ -14,21 +12,6 @@ upd-same f k x = rw (eq-eqb k k refl)
 pub upd-other : {A : Type 0} (f : ℕ → A) (k : ℕ) (x : A) (j : ℕ) → (j ≡ k → ⊥) → upd f k x j ≡ f j
 unfolding upd
 upd-other f k x j e = rw (ne-eqb j k e)
-
--- two numbers are equal or not
-pub by-equal : {P : Type 0} (j k : ℕ) → (j ≡ k → P) → ((j ≡ k → ⊥) → P) → P
-by-equal {P} j k same other = go (ℕ-discrete j k)
-  where
-    go : Dec (j ≡ k) → P
-    go (yes e) = same e
-    go (no e) = other e
-
-pub by-order : {P : Type 0} (j k : ℕ) → (j < k → P) → (k ≤ j → P) → P
-by-order {P} j k under over = go (ltb j k) refl
-  where
-    go : (b : Bool) → ltb j k ≡ b → P
-    go true e = under (ltb-true j k e)
-    go false e = over (ltb-false j k e)
 
 -- two numbers exchanged
 unfoldable pub exchange : ℕ → ℕ → ℕ → ℕ

@@ -5,7 +5,7 @@ use mathlib.Core.Bool.{true, false, or-true, false≢true}
 use lib.Dec.{ltb}
 use borrow.Author.Tests.{lt-ltb, le-ltb, eq-eqb, ne-eqb}
 use Rattle.invariant.specs.Control.{waits}
-use Rattle.invariant.proofs.Upd.{by-equal, by-order}
+use Rattle.object.proofs.Choice.{by-equal, by-order}
 
 module _ (r b i : ℕ) where
   pub waits-below : i < r → waits r b i ≡ false

@@ -13,13 +13,12 @@ use Rattle.object.specs.declared.Answer.the-variants.{Empty}
 use Rattle.object.specs.declared.Object.{Object}
 use Rattle.object.specs.declared.Applied.{Applied}
 use Rattle.object.specs.Plain.{Plain, fresh, plainStep, answersFrom}
-use Rattle.object.specs.Apply.{holds}
+use Rattle.object.specs.Apply.{contents}
 use Rattle.machine.specs.declared.Announced.the-variants.{Asked}
 use Rattle.machine.specs.declared.RetVal.the-variants.{Answered}
 use Rattle.machine.specs.declared.Node.{Node}
-use Rattle.machine.specs.Lines.{Line}
+use Rattle.machine.specs.Lines.{Line, rowOf}
 use Rattle.step.specs.Entry.{appliedAt}
-use Rattle.step.specs.Numbers.{number}
 use Rattle.invariant.specs.Stages.{stageOf, queued}
 use Rattle.invariant.specs.Ledger.{Ledger}
 use Rattle.invariant.specs.View.{View, goal}
@@ -33,9 +32,9 @@ plainAfter kind capacity p (request ∷ requests) = plainAfter kind capacity (pl
 abbrev pub openRequest : (ℕ → ℕ → Request) → View → ℕ → Request
 openRequest requests v t = requests t (v .thread t .begun - 1)
 
--- what thread t's line does to the object
+-- what thread t's line does to the object; whether it applies, its row tells
 abbrev pub appliedBy : Kind → ℕ → Object → View → ℕ → Line → Applied
-appliedBy kind capacity ob v t l = appliedAt (number l) kind capacity ob (v .node (goal v t l) .req)
+appliedBy kind capacity ob v t l = appliedAt (rowOf l .event) kind capacity ob (v .node (goal v t l) .req)
 
 -- a list with one more at its end, if a test holds
 abbrev pub grown : {A : Type 0} → Bool → List A → A → List A
@@ -58,4 +57,4 @@ pub record Data (n : ℕ) (requests : ℕ → ℕ → Request) (kind : Kind) (ca
       → CallData jobs answers (openRequest requests v u) (g .at u) (g .a) (v .thread u .line) (v .node (v .thread u .cur .0))
   -- the answers, and what the object holds, are the plain object's, fed the requests applied
   pub plain : answers ≡ answersFrom kind capacity fresh (take (g .a) jobs)
-  pub object : holds ob ≡ plainAfter kind capacity fresh (take (g .a) jobs)
+  pub object : contents ob ≡ plainAfter kind capacity fresh (take (g .a) jobs)

@@ -8,8 +8,8 @@ use Rattle.machine.specs.declared.NodeId.{NodeId}
 use Rattle.machine.specs.declared.Thread.{Thread}
 use Rattle.machine.specs.declared.Field.{Field}
 use Rattle.machine.specs.declared.Field.the-variants.{Req, Ret, Wait, Completed, Next}
-use Rattle.machine.specs.Lines.{part, read}
-use Rattle.copies.specs.Remote.{fieldNumber, holds, remoteOf}
+use Rattle.machine.specs.Lines.{fieldNumber, part, read}
+use Rattle.copies.specs.Remote.{hasCopyOf, remoteOf}
 use Rattle.invariant.specs.Stages.{Stage, Out, Wait as Waiting, Combine, idle, o2, o3, o4, o5, w6, w7, w8, w9, w10, w11, w12, c13, c14, c15, c16, c17, c18, c20, out, wait, combine, l19, l21, dummy, stageOf}
 use Rattle.invariant.specs.View.{View}
 use Rattle.invariant.specs.Control.{outRow, combineRow}
@@ -21,7 +21,7 @@ among (x ∷ xs) f = eqb (fieldNumber x) (fieldNumber f) || among xs f
 
 -- thread u has valid copies of these fields of a node
 abbrev pub Copied : List ℕ → ℕ → NodeId → List Field → Type 0
-Copied copies u m fields = (f : Field) → T (among fields f) → holds copies u (part m f) ≡ true
+Copied copies u m fields = (f : Field) → T (among fields f) → hasCopyOf copies u (part m f) ≡ true
 
 -- at most so many remote references, and copies of these fields of curNode and of tmpNode
 pub record Within (copies : List ℕ) (u : ℕ) (cur tmp : NodeId) (cost bound : ℕ) (ofCur ofTmp : List Field) : Type 0 where

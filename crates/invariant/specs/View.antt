@@ -10,7 +10,7 @@ use Rattle.machine.specs.declared.Node.{Node}
 use Rattle.machine.specs.declared.Thread.{Thread}
 use Rattle.machine.specs.declared.Effect.{Effect}
 use Rattle.machine.specs.Lines.{Line, rowOf, pointed}
-use Rattle.machine.specs.Effect.{ran}
+use Rattle.machine.specs.Effect.{executed}
 use Rattle.state.specs.declared.State.{State}
 use Rattle.step.specs.Entry.{zeroThread, zeroNode}
 use Rattle.step.specs.Numbers.{number, standsAt}
@@ -32,7 +32,7 @@ module _ (v : View) (t : ℕ) (l : Line) where
 
   -- what the line does, by Algorithm 1
   abbrev pub does : ℕ → Request → Answer → Effect
-  does h request answer = ran (v .thread t) (v .node goal) (v .tail) h request answer l
+  does h request answer = executed (v .thread t) (v .node goal) (v .tail) h request answer l
 
 -- thread t of n runs line l, and v becomes v′
 pub record Does (n h : ℕ) (v v′ : View) (t : ℕ) (l : Line) (request : Request) (answer : Answer) : Type 0 where

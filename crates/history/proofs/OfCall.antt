@@ -5,19 +5,22 @@ use mathlib.Core.Path.{_≡_, refl, ap₂}
 use mathlib.Core.Bool.{Bool, true, false, cond, not, _||_, and-false, and-eq-true-iff}
 use mathlib.Core.List.{List, _∷_}
 use lib.Dec.{eqb}
-use borrow.Author.Tests.{eq-eqb, ne-eqb, eqb-true}
-use Rattle.claims.specs.Entries.{Entry, runs, remoteIn, howMany}
-use Rattle.claims.specs.Terms.{Call, callOf, same, isOf, turnOfCall, costOf, returned, combined, returns}
+use borrow.Author.Tests.{eq-eqb, eqb-true}
+use Rattle.machine.specs.declared.Event.the-variants.{Blank, TurnBegins, Returns}
+use Rattle.history.specs.Entries.{Entry, threadId, is, Is, howMany, remoteIn}
+use Rattle.history.specs.Terms.{Call, callOf, same, isOf, turnOfCall, costOf, returned, combined, returns}
+use Rattle.history.proofs.Told.{is-so, is-not}
 
+-- request q of thread t
 abbrev pub call : ℕ → ℕ → Call
-call t q = record { thread = t; request = q }
+call t q = record { thread = threadId t; request = q }
 
 pub same-itself : (c : Call) → same c c ≡ true
-same-itself c = rw (eq-eqb (c .thread) (c .thread) refl, eq-eqb (c .request) (c .request) refl)
+same-itself c = rw (eq-eqb (c .thread .0) (c .thread .0) refl, eq-eqb (c .request) (c .request) refl)
 
 pub same-told : (c c′ : Call) → same c c′ ≡ true → c ≡ c′
 same-told c c′ e =
-    let p = and-eq-true-iff (eqb (c .thread) (c′ .thread)) (eqb (c .request) (c′ .request)) .0 e in
+    let p = and-eq-true-iff (eqb (c .thread .0) (c′ .thread .0)) (eqb (c .request) (c′ .request)) .0 e in
     ap₂ call (eqb-true _ _ (p .0)) (eqb-true _ _ (p .1))
 
 -- a test that cannot pass fails
@@ -29,14 +32,14 @@ pub not-same : (c c′ : Call) → (c ≡ c′ → ⊥) → same c c′ ≡ fals
 not-same c c′ f = fails (same c c′) (λ e. f (same-told c c′ e))
 
 module _ (e : Entry) (past : List Entry) where
-  pub blank-of-none : (c : Call) → e .line ≡ 0 → isOf c e past ≡ false
-  blank-of-none c z = rw (eq-eqb (e .line) 0 z)
+  pub blank-of-none : (c : Call) → Is Blank e → isOf c e past ≡ false
+  blank-of-none c z = rw (is-so e Blank z)
 
   pub not-of : (c : Call) → (c ≡ callOf e past → ⊥) → isOf c e past ≡ false
-  not-of c f = rw (not-same c (callOf e past) f) (and-false (not (runs 0 e)))
+  not-of c f = rw (not-same c (callOf e past) f) (and-false (not (is Blank e)))
 
-  pub is-of : (e .line ≡ 0 → ⊥) → isOf (callOf e past) e past ≡ true
-  is-of z = rw (ne-eqb (e .line) 0 z, same-itself (callOf e past))
+  pub is-of : (Is Blank e → ⊥) → isOf (callOf e past) e past ≡ true
+  is-of z = rw (is-not e Blank z, same-itself (callOf e past))
 
   -- what an entry of another call leaves
   pub record Left (c : Call) : Type 0 where
@@ -52,10 +55,10 @@ module _ (e : Entry) (past : List Entry) where
   -- and what an entry of the call adds
   pub record Added (c : Call) : Type 0 where
     pub cost : costOf c (e ∷ past) ≡ remoteIn (e .remote) + costOf c past
-    pub returned : returned c (e ∷ past) ≡ (runs 11 e || runs 21 e || returned c past)
-    pub combined : combined c (e ∷ past) ≡ (runs 12 e || combined c past)
-    pub turn : turnOfCall c (e ∷ past) ≡ cond (runs 12 e) (howMany 12 past) (turnOfCall c past)
-    pub returns : returns c (e ∷ past) ≡ cond (runs 11 e || runs 21 e) (e .ret) (returns c past)
+    pub returned : returned c (e ∷ past) ≡ (is Returns e || returned c past)
+    pub combined : combined c (e ∷ past) ≡ (is TurnBegins e || combined c past)
+    pub turn : turnOfCall c (e ∷ past) ≡ cond (is TurnBegins e) (howMany TurnBegins past) (turnOfCall c past)
+    pub returns : returns c (e ∷ past) ≡ cond (is Returns e) (e .ret) (returns c past)
 
   pub added : (c : Call) → isOf c e past ≡ true → Added c
   added c p = record { cost = rw p; returned = rw p; combined = rw p; turn = rw p; returns = rw p }

@@ -1,0 +1,9 @@
+pub mod Calls
+pub mod Copies
+pub mod OfCall
+pub mod Places
+pub mod Shown
+pub mod Sums
+pub mod Swaps
+pub mod Told
+pub mod Turns

@@ -1,0 +1,5 @@
+pub mod Copies
+pub mod Entries
+pub mod History
+pub mod Method
+pub mod Terms

@@ -1,0 +1,156 @@
+-- The terms of demand 3 as document 01 has them, each by the entries of a history alone: calls, Swap order, turns, servings, remote references, records, counts.
+-- They go by what an entry is, and by no line's number, so they are the same for every method; which line is which: the last column of `rowOf` in
+-- machine/specs/Lines.antt.
+use Prim.Native.Nat.{ℕ, _-_}
+use mathlib.Core.Bool.{Bool, false, cond, not, _&&_, _||_}
+use mathlib.Core.List.{List, [], _∷_, _++_, map}
+use lib.ListN.{getD}
+use lib.Dec.{eqb}
+use Rattle.object.specs.Paper.{answerMark, answerValue}
+use Rattle.bench_file.specs.Bytes.{lowFirst}
+use Rattle.machine.specs.declared.ThreadId.{ThreadId}
+use Rattle.machine.specs.declared.NodeId.{NodeId}
+use Rattle.machine.specs.declared.Announced.{Announced}
+use Rattle.machine.specs.declared.RetVal.{RetVal}
+use Rattle.machine.specs.declared.RetVal.the-variants.{NoAnswer, Answered}
+use Rattle.machine.specs.declared.Event.the-variants.{Blank, CallBegins, Swaps, TurnBegins, Applies, TurnEnds, Returns, Spins}
+use Rattle.state.specs.declared.Counts.{Counts}
+use Rattle.step.specs.Entry.{oneIf}
+use Rattle.history.specs.Entries.{Entry, threadId, sumOver, happened, inOrder, latest, is, isBy, howMany, remoteIn}
+
+-- a call: its thread, and the number of its request within it
+pub record Call : Type 0 where
+  pub thread : ThreadId
+  pub request : ℕ
+
+-- how many calls a thread has begun
+abbrev pub begunBy : ThreadId → List Entry → ℕ
+begunBy t = sumOver (λ e past. oneIf (isBy t CallBegins e))
+
+-- an entry's call is the last that its thread has begun. A blank is of no call
+abbrev pub callOf : Entry → List Entry → Call
+callOf e past = record { thread = e .thread; request = begunBy (e .thread) (e ∷ past) - 1 }
+
+-- whether two calls are one, and whether an entry is of a call
+abbrev pub same : Call → Call → Bool
+same c c′ = eqb (c .thread .0) (c′ .thread .0) && eqb (c .request) (c′ .request)
+
+abbrev pub isOf : Call → Entry → List Entry → Bool
+isOf c e past = not (is Blank e) && same c (callOf e past)
+
+-- Swap order: the entries that do a Swap, each standing for its call
+abbrev pub swapOrder : List Entry → List Call
+swapOrder = inOrder (λ e past. cond (is Swaps e) (callOf e past ∷ []) [])
+
+-- no thread, and no thread's call: what stands where there is none
+abbrev pub noThread : ThreadId
+noThread = threadId 255
+
+abbrev pub noCall : Call
+noCall = record { thread = noThread; request = 255 }
+
+-- the call of Swap i
+abbrev pub swapAt : List Entry → ℕ → Call
+swapAt history i = getD (swapOrder history) i noCall
+
+-- the call that a node was assigned to last: by the latest Swap that assigned it
+abbrev pub callAssigned : NodeId → List Entry → Call
+callAssigned m = latest noCall (λ e past. is Swaps e && eqb (e .node .0) (m .0)) callOf
+
+-- no turn: of a thread that has begun none, and of a call that is not served
+abbrev pub noTurn : ℕ
+noTurn = 65535
+
+-- turns are numbered from 0, in the order in which they begin: the turn that a thread began last, and the turn that a call began
+abbrev pub turnOf : ThreadId → List Entry → ℕ
+turnOf t = latest noTurn (λ e past. isBy t TurnBegins e) (λ e past. howMany TurnBegins past)
+
+abbrev pub turnOfCall : Call → List Entry → ℕ
+turnOfCall c = latest noTurn (λ e past. isOf c e past && is TurnBegins e) (λ e past. howMany TurnBegins past)
+
+-- a thread is combiner while its turn has begun and not ended
+abbrev pub combines : ThreadId → List Entry → Bool
+combines t = latest false (λ e past. isBy t TurnBegins e || isBy t TurnEnds e) (λ e past. is TurnBegins e)
+
+-- a request is served when an entry applies it: the call, the req that is applied, the thread that serves, its turn, and the answer
+pub record Serving : Type 0 where
+  pub call : Call
+  pub req : Announced
+  pub server : ThreadId
+  pub turn : ℕ
+  pub answer : RetVal
+
+abbrev pub servingOf : Entry → List Entry → Serving
+servingOf e past = record { call = callAssigned (e .node) past; req = e .req; server = e .thread; turn = turnOf (e .thread) past; answer = e .answer }
+
+abbrev pub servings : List Entry → List Serving
+servings = inOrder (λ e past. cond (is Applies e) (servingOf e past ∷ []) [])
+
+-- how many a turn has served
+abbrev pub servedIn : ℕ → List Entry → ℕ
+servedIn turn = sumOver (λ e past. oneIf (is Applies e && eqb (turnOf (e .thread) past) turn))
+
+-- a call's remote references: the remote accesses of its entries, from its first on
+abbrev pub costOf : Call → List Entry → ℕ
+costOf c = sumOver (λ e past. cond (isOf c e past) (remoteIn (e .remote)) 0)
+
+-- a call has returned once an entry of it returns; it combined if it began a turn
+abbrev pub returned : Call → List Entry → Bool
+returned c = happened (λ e past. isOf c e past && is Returns e)
+
+abbrev pub combined : Call → List Entry → Bool
+combined c = happened (λ e past. isOf c e past && is TurnBegins e)
+
+-- what a returned call returns
+abbrev pub returns : Call → List Entry → RetVal
+returns c = latest NoAnswer (λ e past. isOf c e past && is Returns e) (λ e past. e .ret)
+
+-- how a call was served: with which answer, by which thread and in which turn
+pub record Shown : Type 0 where
+  pub ret : RetVal
+  pub server : ThreadId
+  pub turn : ℕ
+
+abbrev pub shown : Serving → Shown
+shown w = record { ret = w .answer; server = w .server; turn = w .turn }
+
+abbrev pub unshown : Shown
+unshown = record { ret = NoAnswer; server = noThread; turn = noTurn }
+
+abbrev pub shownOf : Call → List Serving → Shown
+shownOf c [] = unshown
+shownOf c (w ∷ later) = cond (same c (w .call)) (shown w) (shownOf c later)
+
+-- mark and value, 255 and 0 before serving
+abbrev pub retMark : RetVal → ℕ
+retMark NoAnswer = 255
+retMark (Answered answer) = answerMark answer
+
+abbrev pub retValue : RetVal → ℕ
+retValue NoAnswer = 0
+retValue (Answered answer) = answerValue answer
+
+-- a record, its 16 bytes, from thread, request, mark, serving thread, value, remote references, whether the call has returned, and turn
+abbrev pub recordBytes : ℕ → ℕ → ℕ → ℕ → ℕ → ℕ → Bool → ℕ → List ℕ
+recordBytes thread request mark server value remote over turn =
+    thread ∷ request ∷ mark ∷ server ∷ lowFirst 4 value ++ lowFirst 4 remote ++ oneIf over ∷ lowFirst 2 turn ++ 0 ∷ []
+
+-- the record of a call
+abbrev pub recordOf : List Entry → Call → List ℕ
+recordOf history c =
+    let w = shownOf c (servings history) in
+    recordBytes (c .thread .0) (c .request) (retMark (w .ret)) (w .server .0) (retValue (w .ret)) (costOf c history) (returned c history) (w .turn)
+
+-- one record for each Swap, in Swap order
+abbrev pub recordsOf : List Entry → List (List ℕ)
+recordsOf history = map (recordOf history) (swapOrder history)
+
+-- records, turns begun, blanks, spins and all remote references
+abbrev pub countsOf : List Entry → Counts
+countsOf history = record {
+  records = howMany Swaps history;
+  turns = howMany TurnBegins history;
+  blanks = howMany Blank history;
+  spins = howMany Spins history;
+  remote = sumOver (λ e past. remoteIn (e .remote)) history;
+}
