@@ -3,8 +3,9 @@ ghost use Prim.Native.Nat.{_%_};
 ghost use mathlib.Core.Path.{_≡_};
 ghost use mathlib.Core.Bool.{cond};
 ghost use lib.ListN.{set};
-ghost use lib.Dec.{eqb};
+ghost use Rattle.machine.specs.Lines.{sameEvent};
 ghost use Rattle.kept.specs.Kept.{unkept, afterEntry, afterServing};
+use machine::Event;
 use machine::NodeId;
 use machine::ThreadId;
 use object::Answer;
@@ -41,18 +42,18 @@ pub fn unkept() -> Kept
 }
 
 // The entry's call: its remote references, and whether it has returned.
-pub fn after_entry(kept: Kept, line: u8, remote: u8) -> Kept
-    ensures { λ r. ⌜ r ≡ afterEntry kept line remote ⌝ }
+pub fn after_entry(kept: Kept, event: Event, remote: u8) -> Kept
+    ensures { λ r. ⌜ r ≡ afterEntry kept event remote ⌝ }
 {
     let mut after = kept;
     after.remote = std::num::wrapping_add_u32(kept.remote, remote as u32);
-    after.returned = (line == 11) | (line == 21) | kept.returned;
+    after.returned = machine::same_event(event, Event::Returns) | kept.returned;
     after
 }
 
-// The call that the entry serves, at line 16: its answer, by which thread and in which turn.
+// The call that the entry serves, if it does: its answer, by which thread and in which turn.
 pub fn after_serving(kept: Kept, serves: bool, answer: Answer, server: ThreadId, turn: u16) -> Kept
-    ensures { λ r. ⌜ r ≡ afterServing kept serves answer (server .0) turn ⌝ }
+    ensures { λ r. ⌜ r ≡ afterServing kept serves answer server turn ⌝ }
 {
     if serves {
         return Kept {
@@ -67,7 +68,7 @@ pub fn after_serving(kept: Kept, serves: bool, answer: Answer, server: ThreadId,
     kept
 }
 
-// The place of the call that is served at line 16, the one that the node was given to last; at other lines that of the entry's own call, which stays.
+// The place of the call that the entry serves, the one that the node was given to last; where it serves none that of its own call, which stays.
 pub fn served_place(serves: bool, given: u16, place: usize) -> usize
     ensures { λ r. ⌜ r ≡ cond serves given place ⌝ }
 {
@@ -88,22 +89,25 @@ fn note(numbers: &mut [u16], at: usize, notes: bool, number: usize)
     }
 }
 
-// What an entry notes: line 12 its thread's turn, numbered by those begun before; a Swap the place of its call, with Tail's node and next in Swap order.
+// What an entry notes: the beginning of a turn its thread's turn, numbered by those begun before; a Swap the place of its call, with the node that it
+// assigns to the call and next in Swap order.
 pub fn note_entry(
     turns: &mut [u16; 16],
-    given: &mut [u16; 17],
-    order: &mut [u16; 256],
-    line: u8,
+    given: &mut [u16; machine::NODES],
+    order: &mut [u16; machine::CALLS],
+    event: Event,
     thread: ThreadId,
-    tail: NodeId,
+    node: NodeId,
     counts: Counts,
     place: usize,
 )
-    ensures { λ r. ⌜ now (turns .exit) ≡ cond (eqb line 12) (set (now (turns .entry)) (thread .0) (counts .turns % 65536)) (now (turns .entry)) ⌝ }
-    ensures { λ r. ⌜ now (given .exit) ≡ cond (eqb line 5) (set (now (given .entry)) (tail .0) (place % 65536)) (now (given .entry)) ⌝ }
-    ensures { λ r. ⌜ now (order .exit) ≡ cond (eqb line 5) (set (now (order .entry)) (counts .records) (place % 65536)) (now (order .entry)) ⌝ }
+    ensures { λ r. ⌜ now (turns .exit) ≡ cond (sameEvent event Event.TurnBegins) (set (now (turns .entry)) (thread .0) (counts .turns % 65536)) (now (turns .entry)) ⌝ }
+    ensures { λ r. ⌜ now (given .exit) ≡ cond (sameEvent event Event.Swaps) (set (now (given .entry)) (node .0) (place % 65536)) (now (given .entry)) ⌝ }
+    ensures { λ r. ⌜ now (order .exit) ≡ cond (sameEvent event Event.Swaps) (set (now (order .entry)) (counts .records) (place % 65536)) (now (order .entry)) ⌝ }
 {
-    note(turns, thread.0 as usize, line == 12, counts.turns as usize);
-    note(given, tail.0 as usize, line == 5, place);
-    note(order, counts.records as usize, line == 5, place);
+    let begins = machine::same_event(event, Event::TurnBegins);
+    let swaps = machine::same_event(event, Event::Swaps);
+    note(turns, thread.0 as usize, begins, counts.turns as usize);
+    note(given, node.0 as usize, swaps, place);
+    note(order, counts.records as usize, swaps, place);
 }

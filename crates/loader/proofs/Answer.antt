@@ -3,11 +3,11 @@ use Prim.Native.Nat.{ℕ}
 use native.Mathlib.Omega.{arith}
 use mathlib.Core.Path.{_≡_, refl, sym, ap}
 use lib.ListN.{length}
+use Rattle.object.specs.Each.{sumOf}
 use Rattle.bench_file.specs.declared.Head.{Head}
 use Rattle.bench_file.specs.declared.Judged.{Judged}
 use Rattle.bench_file.specs.declared.Judged.the-variants as Judged
 use Rattle.bench_file.specs.Layout.{Fields, Judgement, accepted, refusedBy}
-use Rattle.bench_file.specs.Cursor.{sumOver}
 use Rattle.bench_file.specs.Promise.{judgedAs}
 use Rattle.state.specs.declared.State.{State}
 use Rattle.loader.specs.declared.Loaded.{Loaded}
@@ -31,7 +31,7 @@ refused-number (refusedBy n) e = ap refusedBy cc
 pub accepted-loads : (j : Judgement) {head : Head} {requests entries : ℕ} {state : State} → Judged.Accepted head requests entries ≡ judgedAs j → state ≡ loadedAs j .state
     → loaded 0 requests entries state ≡ loadedAs j
 accepted-loads (accepted f) {requests = requests} {entries = entries} e s =
-    let p : requests ≡ sumOver length (f .rows) = cc in
+    let p : requests ≡ sumOf length (f .rows) = cc in
     let q : entries ≡ length (f .schedule) = cc in
     rw (p, q, s)
 accepted-loads (refusedBy number) e s = absurd (apart e)

@@ -11,11 +11,12 @@ use Rattle.object.specs.declared.Request.{Request}
 use Rattle.object.specs.Each.{Each}
 use Rattle.object.proofs.Each.{each-getD, each-take}
 use Rattle.bench_file.specs.declared.Head.{Head}
-use Rattle.bench_file.specs.Layout.{Fields, accepted, judgeOf}
+use Rattle.bench_file.specs.Layout.{Fields, headLength, accepted, judgeOf}
 use Rattle.bench_file.specs.Bytes.{lowFirst, eachBytes, requestBytes, rowBytes, bytesOf, Byte, RowInRange, InRange}
 use Rattle.bench_file.proofs.Each.{eachBytes-length}
 use Rattle.bench_file.proofs.Size.{request-length}
 use Rattle.bench_file.proofs.RoundTrip.{accepted-exactly}
+use Rattle.machine.specs.Sizes.{mostCalls}
 use Rattle.state.specs.declared.Slot.{Slot}
 use Rattle.state.specs.Fresh.{freshState}
 use Rattle.step.specs.Entry.{zeroSlot}
@@ -29,7 +30,7 @@ use Rattle.loader.proofs.Decoded.{slots-decoded}
 abbrev scheduleBytes : Fields → List ℕ
 scheduleBytes f = lowFirst 2 (length (f .schedule)) ++ f .schedule
 
-behind-head : (f : Fields) → drop 9 (bytesOf f) ≡ eachBytes rowBytes (f .rows) ++ scheduleBytes f
+behind-head : (f : Fields) → drop headLength (bytesOf f) ≡ eachBytes rowBytes (f .rows) ++ scheduleBytes f
 unfolding bytesOf
 behind-head f = append-assoc (eachBytes rowBytes (f .rows)) (lowFirst 2 (length (f .schedule))) (f .schedule)
 
@@ -39,7 +40,7 @@ rows-snoc (r ∷ rows) row = ap (λ (l : List Slot). slotsOf r ++ l) (rows-snoc 
 
 -- a row that begins at byte `at` lies within the bytes, and its requests within the places of thread i
 abbrev pub RowInside : List ℕ → ℕ → ℕ → Type 0
-RowInside bytes i at = (i < 16) × (at + (1 + 5 * getD bytes at 0) ≤ length bytes) × (16 * i + getD bytes at 0 ≤ 256)
+RowInside bytes i at = (i < 16) × (at + (1 + 5 * getD bytes at 0) ≤ length bytes) × (16 * i + getD bytes at 0 ≤ mostCalls)
 
 -- row i of an accepted file, where it begins at byte `at`
 abbrev rowAt : Fields → ℕ → List Request
@@ -85,10 +86,10 @@ module _ (f : Fields) (fits : InRange f) (bytes : List ℕ) (i at : ℕ) (left :
       rw (count-here, add-one, take-suc (f .rows) i [] there, map-append)
       (set-filled 0 16 i (map length (take i (f .rows))) (length (rowAt f i)) (rw length-map so-far) (omega (arith, fits .head .n)))
 
-  requests-next : sets (filled 256 zeroSlot (rowsOf (take i (f .rows)))) (16 * i) (slotsIn (getD bytes at 0) (drop (at + 1) bytes)) ≡ filled 256 zeroSlot (rowsOf (take (i + 1) (f .rows)))
+  requests-next : sets (filled mostCalls zeroSlot (rowsOf (take i (f .rows)))) (16 * i) (slotsIn (getD bytes at 0) (drop (at + 1) bytes)) ≡ filled mostCalls zeroSlot (rowsOf (take (i + 1) (f .rows)))
   requests-next =
       rw (requests-here, count-here, slots-decoded (f .head .object) (rowAt f i) (behindRow f i) (in-range .requests), add-one, take-suc (f .rows) i [] there, rows-snoc)
-      (sets-filled zeroSlot 256 (16 * i) (rowsOf (take i (f .rows))) (map slotOf (rowAt f i)) (16 - length (map slotOf (rowAt f i)))
+      (sets-filled zeroSlot mostCalls (16 * i) (rowsOf (take i (f .rows))) (map slotOf (rowAt f i)) (16 - length (map slotOf (rowAt f i)))
       (length-rows (f .head .object) (take i (f .rows)) (each-take (RowInRange (f .head .object)) i (f .rows) (fits .rows)) ∙ rw so-far)
       (rw length-map (omega (arith, in-range .count, fits .head .n))))
 
@@ -100,10 +101,10 @@ pub record Walk (bytes : List ℕ) (head : Head) (i at : ℕ) (counts : List ℕ
   pub fits : InRange f
   pub left : drop at bytes ≡ eachBytes rowBytes (drop i (f .rows)) ++ scheduleBytes f
   pub counted : counts ≡ filled 16 0 (map length (take i (f .rows)))
-  pub laid : requests ≡ filled 256 zeroSlot (rowsOf (take i (f .rows)))
+  pub laid : requests ≡ filled mostCalls zeroSlot (rowsOf (take i (f .rows)))
 
 pub walk-starts : (bytes : List ℕ) (head : Head) → Each Byte bytes → ((f : Fields) × (judgeOf bytes ≡ accepted f) × (f .head ≡ head))
-    → Walk bytes head 0 9 (replicate 16 0) (replicate 256 zeroSlot)
+    → Walk bytes head 0 headLength (replicate 16 0) (replicate mostCalls zeroSlot)
 walk-starts bytes head p (f, e, z) =
     let (fits, b) = accepted-exactly bytes f p .0 e in
     record { f = f; judged = e; its-head = z; fits = fits; left = rw (← b) (behind-head f); counted = refl; laid = refl }

@@ -6,8 +6,8 @@ use Rattle.object.specs.declared.Kind.the-variants.{Queue}
 use Rattle.object.specs.declared.Request.{Request}
 use Rattle.object.specs.Paper.{requestOf}
 use Rattle.bench_file.specs.Reading.{littleEndian}
-use Rattle.bench_file.specs.Layout.{Judgement, accepted, refusedBy}
-use Rattle.bench_file.specs.Cursor.{requestsOf}
+use Rattle.bench_file.specs.Layout.{requestsOf, Judgement, accepted, refusedBy}
+use Rattle.machine.specs.Sizes.{mostCalls}
 use Rattle.state.specs.declared.Slot.{Slot}
 use Rattle.state.specs.declared.State.{State}
 use Rattle.state.specs.Fresh.{freshState}
@@ -17,7 +17,7 @@ use Rattle.loader.specs.declared.Loaded.{Loaded}
 
 -- a machine of no thread and no request: what stands for the machine of a refused file
 abbrev pub noMachine : State
-noMachine = freshState Queue 0 0 0 (replicate 16 0) (replicate 256 zeroSlot)
+noMachine = freshState Queue 0 0 0 (replicate 16 0) (replicate mostCalls zeroSlot)
 
 -- how many requests and entries an accepted file has, and its fresh machine; a refusal has its number, and all counts 0
 abbrev pub loadedAs : Judgement → Loaded

@@ -16,6 +16,7 @@ ghost use Prim.Native.Nat.{_+_, _*_, _≤_, _<_};
 ghost use lib.ListN.{length, drop};
 ghost use lib.Seq.{sets};
 ghost use Rattle.bench_file.specs.Layout.{Fields, accepted, judgeOf};
+ghost use Rattle.machine.specs.Sizes.{mostCalls};
 ghost use Rattle.state.specs.Fresh.{freshThread, freshThreads, freshNode, freshState};
 ghost use Rattle.step.specs.Entry.{zeroSlot};
 ghost use Rattle.loader.specs.Load.{requestIn, slotsIn, loadedAs};
@@ -82,7 +83,14 @@ fn fresh_threads(counts: [u8; 16]) -> [Thread; 16]
 }
 
 // The fresh machine of a head, counts and requests.
-fn fresh(kind: Kind, n: u8, h: u8, capacity: u8, counts: [u8; 16], requests: [Slot; 256]) -> State
+fn fresh(
+    kind: Kind,
+    n: u8,
+    h: u8,
+    capacity: u8,
+    counts: [u8; 16],
+    requests: [Slot; machine::CALLS],
+) -> State
     ensures { λ r. ⌜ r ≡ freshState kind n h capacity counts requests ⌝ }
 {
     let threads = fresh_threads(counts);
@@ -94,9 +102,9 @@ fn fresh(kind: Kind, n: u8, h: u8, capacity: u8, counts: [u8; 16], requests: [Sl
         capacity,
         tail: NodeId(0),
         threads,
-        nodes: [fresh_node(); 17],
+        nodes: [fresh_node(); machine::NODES],
         requests,
-        copies: [0; 86],
+        copies: [0; machine::LOCATIONS],
         object,
         counts: Counts {
             records: 0,
@@ -125,8 +133,14 @@ fn request_at(file: &[u8], at: usize) -> Request
 }
 
 // The requests with `count` more, read from byte `at` of the file on and stored from place `first` on.
-fn laid(requests: [Slot; 256], first: usize, file: &[u8], at: usize, count: usize) -> [Slot; 256]
-    requires { ⌜ (first + count ≤ 256) × (at + 5 * count ≤ length (now file)) ⌝ }
+fn laid(
+    requests: [Slot; machine::CALLS],
+    first: usize,
+    file: &[u8],
+    at: usize,
+    count: usize,
+) -> [Slot; machine::CALLS]
+    requires { ⌜ (first + count ≤ mostCalls) × (at + 5 * count ≤ length (now file)) ⌝ }
     ensures { λ r. ⌜ r ≡ sets requests first (slotsIn count (drop at (now (file .entry)))) ⌝ }
 {
     let mut rows = requests;
@@ -146,8 +160,8 @@ fn machine_of(file: &[u8], head: Head) -> State
 {
     let kind = head.object;
     let mut counts = [0; 16];
-    let mut requests = [no_request(); 256];
-    let mut at = 9usize;
+    let mut requests = [no_request(); machine::CALLS];
+    let mut at = bench_file::HEAD_BYTES;
     let mut i = 0u8;
     while i < head.n {
         let place = i as usize;
@@ -180,7 +194,14 @@ pub fn load(file: &[u8]) -> Loaded
             }
         }
         Judged::Refused(refusal) => {
-            let state = fresh(Kind::Queue, 0, 0, 0, [0; 16], [no_request(); 256]);
+            let state = fresh(
+                Kind::Queue,
+                0,
+                0,
+                0,
+                [0; 16],
+                [no_request(); machine::CALLS],
+            );
             Loaded {
                 refusal,
                 requests: 0,

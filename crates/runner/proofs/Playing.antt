@@ -7,12 +7,12 @@ use mathlib.Core.List.{List}
 use lib.ListN.{length}
 use lib.Dec.{ltb}
 use borrow.Author.Tests.{lt-ltb, le-ltb}
-use Rattle.object.specs.Each.{Each}
+use Rattle.object.specs.Each.{Each, sumOf}
 use Rattle.bench_file.specs.Layout.{Judgement, accepted, refusedBy, judgeOf}
 use Rattle.bench_file.specs.Bytes.{Byte}
-use Rattle.bench_file.specs.Cursor.{sumOver}
 use Rattle.bench_file.proofs.Numbered.{refused-tabled}
 use Rattle.bench_file.proofs.RoundTrip.{accepted-in-range}
+use Rattle.machine.specs.Sizes.{mostCalls}
 use Rattle.loader.specs.declared.Loaded.{Loaded}
 use Rattle.loader.specs.Load.{loadedAs}
 use Rattle.loader.proofs.Schedule.{schedule-last}
@@ -21,8 +21,8 @@ use Rattle.runner.specs.Played.{fieldsOf, fieldsIn, Startable, playedOf,
 
 -- an accepted file, loaded
 pub record Ready (bytes : List ℕ) (j : Judgement) (r : Loaded) : Type 0 where
-  pub requests : r .requests ≡ sumOver length (fieldsOf j .rows)
-  pub few : r .requests ≤ 256
+  pub requests : r .requests ≡ sumOf length (fieldsOf j .rows)
+  pub few : r .requests ≤ mostCalls
   pub entries : r .entries ≤ length bytes
   pub start : Startable (fieldsOf j) bytes (length bytes - r .entries) (r .state)
   pub plays : (lent : ℕ) → playedIn lent j ≡ cond (ltb lent (16 * r .requests)) (unplayed 13) (playedOf (fieldsOf j))

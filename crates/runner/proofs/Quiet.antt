@@ -2,102 +2,127 @@
 use Prim.Native.Nat.{ℕ, _+_, _^_, _<_}
 use native.Mathlib.Nat.{add-zero, mod-eq-of-lt}
 use native.Mathlib.Omega.{arith}
-use mathlib.Core.Path.{_≡_, refl, sym, ap, ap₂, _∙_}
-use mathlib.Core.Bool.{Bool, true, false, _||_}
+use mathlib.Core.Path.{_≡_, refl, sym, ap, _∙_}
+use mathlib.Core.Bool.{Bool, true, false, cond, _&&_, _||_, and-eq-true-iff}
 use mathlib.Core.List.{List, [], _∷_}
 use lib.ListN.{length, getD, set}
 use lib.Seq.{set-getD}
-use lib.Dec.{eqb}
+use Rattle.object.specs.Each.{Each}
 use Rattle.object.specs.declared.Kind.{Kind}
 use Rattle.machine.specs.declared.Field.the-variants.{Wait}
+use Rattle.machine.specs.declared.Event.{Event}
+use Rattle.machine.specs.declared.Event.the-variants.{Blank, Swaps, TurnBegins, Applies, Returns, Spins}
 use Rattle.machine.specs.declared.NodeId.{NodeId}
 use Rattle.machine.specs.declared.Row.{Row}
 use Rattle.machine.specs.declared.ThreadId.{ThreadId}
-use Rattle.machine.specs.Effect.{ran}
-use Rattle.machine.specs.Lines.{Location, part, read, lineOf, rowOf, pointed, accessesOf}
-use Rattle.copies.specs.Remote.{Referred, holds, referred}
+use Rattle.machine.specs.Effect.{executed}
+use Rattle.machine.specs.Lines.{Line, L0, L9, printed, Location, part, read, lineOf, rowOf, eventIn, sameEvent, accessesOf}
+use Rattle.copies.specs.Copies.{hasCopy}
+use Rattle.copies.specs.Remote.{Referred, hasCopyOf, referred}
+use Rattle.copies.specs.Remote.{place as copyPlace}
 use Rattle.state.specs.declared.Counts.{Counts}
 use Rattle.state.specs.declared.State.{State}
 use Rattle.state.specs.Range.{countsInRange}
 use Rattle.state.proofs.RangeFacts.{CountsFit, counts-iff}
-use Rattle.step.specs.Entry.{zeroThread, zeroNode, named, line, target, node, request, applied, effect, references, countsAfter, entered}
-use Rattle.step.specs.Numbers.{standsAt}
+use Rattle.step.specs.Entry.{zeroThread, zeroNode, named, line, row, target, node, event, request, applied, effect, references, countsAfter, entered}
+use Rattle.step.specs.Numbers.{number, standsAt}
+use Rattle.step.proofs.Numbers.{line-at, each-line, by-line}
 use Rattle.step.proofs.Outcome.{runs-line}
 use Rattle.step.proofs.Soundness.{Sound}
-use Rattle.claims.proofs.Counted.{cost-fits, next-fits}
+use Rattle.invariant.proofs.Bridge.{number-line}
+use Rattle.history.specs.Entries.{threadId}
+use Rattle.history.proofs.Sums.{cost-fits}
+use Rattle.claims.proofs.Counted.{next-fits}
 use Rattle.kept.specs.declared.Kept.{Kept}
 use Rattle.kept.specs.Kept.{callAt, unkept, afterEntry}
 use Rattle.runner.specs.Played.{fieldsIn}
 use Rattle.runner.proofs.Running.{Running, few, call-below, running-next, changed, Looping}
 use Rattle.runner.proofs.Tables.{place, served, enteredCalls, servedCalls}
 
--- a line that is noted in no array of a run
-pub record Unnoted (k : ℕ) : Type 0 where
-  pub no-swap : eqb k 5 ≡ false
-  pub no-turn : eqb k 12 ≡ false
-  pub no-serving : eqb k 16 ≡ false
-  pub no-return : (eqb k 11 || eqb k 21) ≡ false
+-- what is noted in no array of a run
+pub record Unnoted (event : Event) : Type 0 where
+  pub no-swap : sameEvent event Swaps ≡ false
+  pub no-turn : sameEvent event TurnBegins ≡ false
+  pub no-serving : sameEvent event Applies ≡ false
+  pub no-return : sameEvent event Returns ≡ false
 
 -- an entry that changes nothing but the counts: they are these after it
 pub record Quiet (s : State) (t : ThreadId) (counts : Counts) : Type 0 where
-  pub unnoted : Unnoted (line s t)
+  pub unnoted : Unnoted (event s t)
   pub effect-same : effect s t ≡ record { refusal = 0; thread = named s t; node = node s t; tail = s .tail }
   pub references-same : references s t ≡ record { remote = 0; copies = s .copies }
   pub counted : countsAfter s t ≡ counts
+
+-- the line whose row alone has an event
+the-line : (told : Event) (only : Line) → Each (λ (l : Line). cond (sameEvent (rowOf l .event) told) (number l) (number only) ≡ number only) (L0 ∷ printed)
+    → (l : Line) → sameEvent (rowOf l .event) told ≡ true → l ≡ only
+the-line told only alone l is =
+    let its : number l ≡ number only = rw is at (each-line (λ (l : Line). cond (sameEvent (rowOf l .event) told) (number l) (number only) ≡ number only) alone l) in
+    by-line (λ (l : Line). l ≡ only) l its (line-at only)
 
 -- a blank adds one to the blanks
 abbrev pub blankMore : Counts → Counts
 blankMore c = record { records = c .records; turns = c .turns; blanks = c .blanks + 1; spins = c .spins; remote = c .remote }
 
-pub blank-quiet : (s : State) (t : ThreadId) → line s t ≡ 0 → Quiet s t (blankMore (s .counts))
+pub blank-quiet : (s : State) (t : ThreadId) → sameEvent (row s t .event) Blank ≡ true → Quiet s t (blankMore (s .counts))
 blank-quiet s t blank = record {
-  unnoted = rw blank (record { no-swap = refl; no-turn = refl; no-serving = refl; no-return = refl });
-  effect-same = ap (λ (k : ℕ). ran (named s t) (node s t) (s .tail) (s .h) (request s t) (applied s t .answer) (lineOf k)) blank;
-  references-same = none;
-  counted = rw (none, blank) (simp add-zero);
+  unnoted = rw none (record { no-swap = refl; no-turn = refl; no-serving = refl; no-return = refl });
+  effect-same = ap (λ (l : Line). executed (named s t) (node s t) (s .tail) (s .h) (request s t) (applied s t .answer) l) none;
+  references-same = no-reference;
+  counted = rw (no-reference, none) (simp add-zero);
 }
   where
-    none : references s t ≡ record { remote = 0; copies = s .copies }
-    none = ap (λ (k : ℕ). referred (s .n) (t .0) (s .copies) (accessesOf (rowOf (lineOf k)) (target s t))) blank
+    none : lineOf (line s t) ≡ L0
+    none = the-line Blank L0 (omega arith) (lineOf (line s t)) blank
+
+    no-reference : references s t ≡ record { remote = 0; copies = s .copies }
+    no-reference = ap (λ (l : Line). referred (s .n) (t .0) (s .copies) (accessesOf (rowOf l) (target s t))) none
 
 -- a read by a thread that has a copy is not remote and leaves the copies as they are
-held-read : (n t : ℕ) (copies : List ℕ) (l : Location) → holds copies t l ≡ true → referred n t copies (read l ∷ []) ≡ record { remote = 0; copies = copies }
+held-read : (n t : ℕ) (copies : List ℕ) (l : Location) → hasCopyOf copies t l ≡ true → referred n t copies (read l ∷ []) ≡ record { remote = 0; copies = copies }
 held-read n t copies l held = rw (held, add-zero, set-getD)
 
--- at line 9 the node is curNode
-pub spin-target : (s : State) (t : ThreadId) → line s t ≡ 9 → target s t ≡ named s t .cur
-spin-target s t nine = ap (λ (k : ℕ). pointed (rowOf (lineOf k) .node) (named s t)) nine
+-- an entry of the row that spins, where it finds wait true and its thread has a copy
+pub record Spinning (s : State) (t : ThreadId) : Type 0 where
+  pub spins : sameEvent (row s t .event) Spins ≡ true
+  pub waits : node s t .wait ≡ true
+  pub held : hasCopyOf (s .copies) (t .0) (part (target s t) Wait) ≡ true
 
--- an entry that finds wait true at line 9, of a thread that has a copy
-pub record Spins (s : State) (t : ThreadId) : Type 0 where
-  pub nine : line s t ≡ 9
-  pub waits : getD (s .nodes) (named s t .cur .0) zeroNode .wait ≡ true
-  pub held : holds (s .copies) (t .0) (part (named s t .cur) Wait) ≡ true
+-- as the tests for it say, of the row's node and the place of its wait among the copies
+pub spinning : (s : State) (t : ThreadId) {m : NodeId} {at : ℕ} (has : Bool) → sameEvent (row s t .event) Spins ≡ true → m ≡ target s t → at ≡ copyPlace (part m Wait)
+    → has ≡ hasCopy (getD (s .copies) at 0) (t .0) → (getD (s .nodes) (m .0) zeroNode .wait && has) ≡ true → Spinning s t
+spinning s t {m} has spins is placed copy both =
+    let found = and-eq-true-iff (getD (s .nodes) (m .0) zeroNode .wait) has .0 both in
+    record { spins = spins; waits = rw is at (found .0); held = rw (copy, placed, is) at (found .1) }
 
 -- a spin adds one to the spins
 abbrev pub spinMore : Counts → Counts
 spinMore c = record { records = c .records; turns = c .turns; blanks = c .blanks; spins = c .spins + 1; remote = c .remote }
 
-module _ (s : State) (t : ThreadId) (sound : Sound s) (small : t .0 < s .n) (spins : Spins s t) where
-  stands : named s t .line ≡ 9
-  stands = runs-line s t (sound .shape) (sound .range) small .stands ∙ ap standsAt (spins .nine)
+module _ (s : State) (t : ThreadId) (sound : Sound s) (small : t .0 < s .n) (spinning : Spinning s t) where
+  nine : lineOf (line s t) ≡ L9
+  nine = the-line Spins L9 (omega arith) (lineOf (line s t)) (spinning .spins)
 
-  node-waits : node s t .wait ≡ true
-  node-waits = rw (spin-target s t (spins .nine)) (spins .waits)
+  -- the thread stands there, and stays
+  stands : named s t .line ≡ number L9
+  stands = runs-line s t (sound .shape) (sound .range) small .stands ∙ ap standsAt (sym (number-line s t sound small) ∙ ap number nine)
 
   held : references s t ≡ record { remote = 0; copies = s .copies }
   held =
-      ap₂ (λ (k : ℕ) (m : NodeId). referred (s .n) (t .0) (s .copies) (accessesOf (rowOf (lineOf k)) m)) (spins .nine) (spin-target s t (spins .nine))
-      ∙ held-read (s .n) (t .0) (s .copies) (part (named s t .cur) Wait) (spins .held)
+      ap (λ (l : Line). referred (s .n) (t .0) (s .copies) (accessesOf (rowOf l) (target s t))) nine
+      ∙ held-read (s .n) (t .0) (s .copies) (part (target s t) Wait) (spinning .held)
+
+  spins-now : event s t ≡ Spins
+  spins-now = ap (λ (l : Line). eventIn (rowOf l .event) (node s t)) nine ∙ rw (spinning .waits)
 
   pub spin-quiet : Quiet s t (spinMore (s .counts))
   spin-quiet = record {
-    unnoted = rw (spins .nine) (record { no-swap = refl; no-turn = refl; no-serving = refl; no-return = refl });
+    unnoted = rw spins-now (record { no-swap = refl; no-turn = refl; no-serving = refl; no-return = refl });
     effect-same =
-        ap (λ (k : ℕ). ran (named s t) (node s t) (s .tail) (s .h) (request s t) (applied s t .answer) (lineOf k)) (spins .nine)
-        ∙ rw (node-waits, ← stands);
+        ap (λ (l : Line). executed (named s t) (node s t) (s .tail) (s .h) (request s t) (applied s t .answer) l) nine
+        ∙ rw (spinning .waits, ← stands);
     references-same = held;
-    counted = rw (held, node-waits, spins .nine) (simp add-zero);
+    counted = rw (held, spins-now) (simp add-zero);
   }
 
 -- the state after a quiet entry
@@ -108,15 +133,15 @@ quiet-entered s t q =
     rw (q .counted, q .effect-same, q .references-same, threads, nodes, q .unnoted .no-serving)
 
 -- what is kept of the call stays where no reference is remote and the call does not return
-kept-same : {k remote : ℕ} (kept : Kept) → Unnoted k → remote ≡ 0 → kept .remote < 2 ^ 32 → afterEntry kept k remote ≡ kept
+kept-same : {event : Event} {remote : ℕ} (kept : Kept) → Unnoted event → remote ≡ 0 → kept .remote < 2 ^ 32 → afterEntry kept event remote ≡ kept
 kept-same kept u none fits =
     let same : Bool → Kept = λ test. record { mark = kept .mark; server = kept .server; value = kept .value; remote = kept .remote; returned = test || kept .returned; turn = kept .turn } in
     rw (none, add-zero, mod-eq-of-lt fits) (ap same (u .no-return))
 
 module _ {bytes : List ℕ} {rows : List Row} {n h capacity i : ℕ} {kind : Kind} {s : State} {kept : List Kept} {order given turns : List ℕ} {counts : Counts}
-    (x : Looping bytes rows n h kind capacity i s kept order given turns) (inside : i < length bytes) (q : Quiet s (record { 0 = getD bytes i 0 }) counts) where
+    (x : Looping bytes rows n h kind capacity i s kept order given turns) (inside : i < length bytes) (q : Quiet s (threadId (getD bytes i 0)) counts) where
   abbrev t : ThreadId
-  t = record { 0 = getD bytes i 0 }
+  t = threadId (getD bytes i 0)
 
   abbrev run : Running (fieldsIn bytes) bytes i s kept order given turns
   run = x .running

@@ -4,12 +4,10 @@ use Prim.Native.Nat.{ℕ, _+_, _-_, _*_, _%_, _≤_, _<_}
 use native.Mathlib.Numerals.{add-one}
 use native.Mathlib.Omega.{arith}
 use mathlib.Core.Path.{_≡_, refl, sym, ap, _∙_}
-use mathlib.Core.Bool.{true, false, cond}
-use mathlib.Core.List.{List, [], _∷_, map, reverse, reverseAux}
+use mathlib.Core.Bool.{Bool, true, false, cond}
+use mathlib.Core.List.{List, [], _∷_, map, reverseAux}
 use lib.ListN.{length, getD, set, drop, replicate, drop-of-length-le}
 use lib.Seq.{drop-cons}
-use lib.Dec.{eqb}
-use borrow.Author.Tests.{eq-eqb, ne-eqb}
 use Rattle.object.specs.Each.{Each}
 use Rattle.bench_file.specs.Layout.{Fields}
 use Rattle.bench_file.specs.Bytes.{InRange}
@@ -23,19 +21,25 @@ use Rattle.machine.specs.declared.NodeId.{NodeId}
 use Rattle.machine.specs.declared.Effect.{Effect}
 use Rattle.machine.specs.Effect.{takesOut}
 use Rattle.machine.specs.declared.ThreadId.{ThreadId}
+use Rattle.machine.specs.declared.Event.{Event}
+use Rattle.machine.specs.declared.Event.the-variants.{Swaps, TurnBegins, Applies}
 use Rattle.machine.specs.declared.Row.{Row}
-use Rattle.machine.specs.Lines.{Blank, printed, lineOf, rowOf}
+use Rattle.machine.specs.Lines.{L0, printed, lineOf, rowOf, sameEvent}
+use Rattle.machine.specs.Sizes.{mostCalls, mostNodes}
 use Rattle.state.specs.declared.Counts.{Counts}
 use Rattle.state.specs.declared.State.{State}
 use Rattle.state.specs.Range.{inRange, countsInRange}
 use Rattle.state.specs.Shape.{Shaped}
 use Rattle.state.proofs.RangeFacts.{state-fits}
-use Rattle.step.specs.Entry.{servedBy, appliedAt, plus, wrapped, named, line, target, node, effect, applied, references, entered}
+use Rattle.step.specs.Entry.{servedBy, appliedAt, plus, wrapped, named, line, event, target, node, effect, applied, references, entered}
 use Rattle.step.proofs.Numbers.{number-most}
 use Rattle.step.proofs.Outcome.{target-in-range}
-use Rattle.step.proofs.Entering.{place-few, Called, made, is-row, at-target, is-applied, sums, line-done, entered-by, fits-wrapped}
+use Rattle.step.proofs.Entering.{place-few, Called, made, is-row, at-target, is-event, is-applied, sums, line-done, entered-by, fits-wrapped}
 use Rattle.invariant.proofs.Bridge.{number-line}
-use Rattle.claims.specs.Entries.{Entry, entryOf, startOf, entriesFrom, stateAfter, entriesOf, howMany}
+use Rattle.history.specs.Entries.{Entry, threadId, Is, howMany}
+use Rattle.history.specs.Terms.{noCall, noTurn}
+use Rattle.history.proofs.Told.{is-so}
+use Rattle.claims.specs.Entries.{entryOf, startOf, entriesFrom, stateAfter, historyOf}
 use Rattle.claims.proofs.Counted.{next-fits}
 use Rattle.claims.proofs.Layers.{Layers, stays, layers-next}
 use Rattle.claims.proofs.Room.{all-swaps-few}
@@ -43,7 +47,7 @@ use Rattle.claims.proofs.Run.{Going, going-next}
 use Rattle.claims.proofs.Theorem.{run-layers}
 use Rattle.kept.specs.declared.Kept.{Kept}
 use Rattle.runner.specs.declared.Played.{Played}
-use Rattle.kept.specs.Kept.{callAt, keptOf, unkept, afterEntry, afterServing}
+use Rattle.kept.specs.Kept.{placeOf, callAt, keptOf, unkept, afterEntry, afterServing}
 use Rattle.runner.specs.Played.{fieldsIn, Startable, playedOf}
 use Rattle.runner.proofs.Tabled.{is-tabled}
 use Rattle.runner.proofs.Tables.{Tables, tables-start, place, served, enteredCalls, servedCalls, orderAfter, givenAfter, turnsAfter, place-below, served-below, tables-next}
@@ -57,15 +61,15 @@ pub record Running (f : Fields) (bytes : List ℕ) (i : ℕ) (s : State) (kept :
   -- threads below n, and the entries that end the run
   pub left : Each (λ t. t < f .head .n) (drop i bytes)
   pub short : length past + length (drop i bytes) ≤ 32768
-  pub ends : reverseAux (entriesFrom s (drop i bytes)) past ≡ reverse (entriesOf f)
+  pub ends : reverseAux (entriesFrom s (drop i bytes)) past ≡ historyOf f
 
 -- the entries to come only add Swaps
-more-swaps : (rest past : List Entry) → howMany 5 past ≤ howMany 5 (reverseAux rest past)
+more-swaps : (rest past : List Entry) → howMany Swaps past ≤ howMany Swaps (reverseAux rest past)
 more-swaps [] past = omega arith
 more-swaps (e ∷ rest) past = omega (arith, more-swaps rest (e ∷ past))
 
 module _ (f : Fields) (bytes : List ℕ) (fits : InRange f) where
-  running-start : (from : ℕ) → drop from bytes ≡ f .schedule → Running f bytes from (startOf f) (replicate 256 unkept) (replicate 256 0) (replicate 17 4335) (replicate 16 65535)
+  running-start : (from : ℕ) → drop from bytes ≡ f .schedule → Running f bytes from (startOf f) (replicate mostCalls unkept) (replicate mostCalls 0) (replicate mostNodes (placeOf noCall)) (replicate 16 noTurn)
   unfolding stateAfter
   running-start from e =
       let fresh = run-layers f fits 0 in
@@ -81,13 +85,13 @@ module _ (f : Fields) (bytes : List ℕ) (fits : InRange f) where
 
   -- with nothing left the entries so far are the run
   ends-none : {i : ℕ} {s : State} {kept : List Kept} {order given turns : List ℕ} (x : Running f bytes i s kept order given turns) → length bytes ≤ i
-      → x .past ≡ reverse (entriesOf f)
+      → x .past ≡ historyOf f
   unfolding entriesFrom
   ends-none {s = s} x done = ap (λ (l : List ℕ). reverseAux (entriesFrom s l) (x .past)) (sym (drop-of-length-le bytes done)) ∙ x .ends
 
   module _ {i : ℕ} {s : State} {kept : List Kept} {order given turns : List ℕ} (x : Running f bytes i s kept order given turns) (inside : i < length bytes) where
     abbrev t : ThreadId
-    t = record { 0 = getD bytes i 0 }
+    t = threadId (getD bytes i 0)
 
     here : drop i bytes ≡ t .0 ∷ drop (i + 1) bytes
     here = rw add-one (drop-cons bytes i 0 inside)
@@ -108,41 +112,42 @@ module _ (f : Fields) (bytes : List ℕ) (fits : InRange f) where
     pub line-few : {k : ℕ} → k ≡ line s t → k < 22
     line-few e = omega (arith, e, number-line s t (x .going .sound) below, number-most (lineOf (line s t)))
 
-    pub node-few : {m : NodeId} → m ≡ target s t → m .0 < 17
+    pub node-few : {m : NodeId} → m ≡ target s t → m .0 < mostNodes
     node-few e =
         rw e (omega (arith, target-in-range s t (x .going .sound .shape) (x .going .sound .range) below, state-fits s (x .going .sound .range) .small))
 
-    pub slot-few : {p : ℕ} → p ≡ 16 * t .0 + (named s t .begun - 1) → p < 256
+    pub slot-few : {p : ℕ} → p ≡ 16 * t .0 + (named s t .begun - 1) → p < mostCalls
     slot-few = place-few s t (x .going .sound .shape) (x .going .sound .range) below
 
-    ends-next : reverseAux (entriesFrom (entered s t) (drop (i + 1) bytes)) (entryOf s t ∷ x .past) ≡ reverse (entriesOf f)
+    ends-next : reverseAux (entriesFrom (entered s t) (drop (i + 1) bytes)) (entryOf s t ∷ x .past) ≡ historyOf f
     unfolding entriesFrom
     ends-next = ap (λ (l : List ℕ). reverseAux (entriesFrom s l) (x .past)) (sym here) ∙ x .ends
 
     -- there is room in Swap order for one more
-    room : line s t ≡ 5 → s .counts .records < 256
+    room : Is Swaps (entryOf s t) → s .counts .records < mostCalls
     room swap =
-        let counted : s .counts .records ≡ howMany 5 (x .past) = ap (λ (c : Counts). c .records) (x .going .counted .counts) in
-        let one : howMany 5 (entryOf s t ∷ x .past) ≡ 1 + howMany 5 (x .past) = rw (eq-eqb (line s t) 5 swap) in
+        let counted : s .counts .records ≡ howMany Swaps (x .past) = ap (λ (c : Counts). c .records) (x .going .counted .counts) in
+        let one : howMany Swaps (entryOf s t ∷ x .past) ≡ 1 + howMany Swaps (x .past) = rw (is-so (entryOf s t) Swaps swap) in
         omega (arith, rw ends-next at (more-swaps (entriesFrom (entered s t) (drop (i + 1) bytes)) (entryOf s t ∷ x .past)), all-swaps-few f fits)
 
     -- what the loop's own calls answered for the entry, and what the notes left in the arrays
-    pub record Booked (d : Kept) (k : ℕ) (m : NodeId) (answer : Answer) (e : Effect) (remote call served : ℕ) (order′ given′ turns′ : List ℕ) (mine theirs : Kept) : Type 0 where
+    pub record Booked (d : Kept) (ev : Event) (applies : Bool) (m : NodeId) (answer : Answer) (e : Effect) (remote call served : ℕ) (order′ given′ turns′ : List ℕ) (mine theirs : Kept) : Type 0 where
+      pub of-applies : applies ≡ sameEvent ev Applies
       pub of-call : call ≡ 16 * t .0 + (e .thread .begun - 1)
-      pub of-served : served ≡ cond (eqb k 16) (getD given (m .0) 0) call
-      pub of-turns : turns′ ≡ cond (eqb k 12) (set turns (t .0) (s .counts .turns % 65536)) turns
-      pub of-given : given′ ≡ cond (eqb k 5) (set given (s .tail .0) (call % 65536)) given
-      pub of-order : order′ ≡ cond (eqb k 5) (set order (s .counts .records) (call % 65536)) order
-      pub of-mine : mine ≡ afterEntry (getD kept call d) k remote
-      pub of-theirs : theirs ≡ afterServing (getD (set kept call mine) served d) (eqb k 16) answer (t .0) (getD turns (t .0) 0)
+      pub of-served : served ≡ cond applies (getD given (m .0) 0) call
+      pub of-turns : turns′ ≡ cond (sameEvent ev TurnBegins) (set turns (t .0) (s .counts .turns % 65536)) turns
+      pub of-given : given′ ≡ cond (sameEvent ev Swaps) (set given (s .tail .0) (call % 65536)) given
+      pub of-order : order′ ≡ cond (sameEvent ev Swaps) (set order (s .counts .records) (call % 65536)) order
+      pub of-mine : mine ≡ afterEntry (getD kept call d) ev remote
+      pub of-theirs : theirs ≡ afterServing (getD (set kept call mine) served d) applies answer t (getD turns (t .0) 0)
 
     stay : takesOut (named s t) (node s t) (s .h) (line s t) ≡ false
     stay = stays f fits s (x .past) t below (x .going) (x .layers)
 
-    pub call-below : place s t < 256
+    pub call-below : place s t < mostCalls
     call-below = place-below f fits s (x .past) t below (x .going) (x .layers) few
 
-    pub their-below : served s t given < 256
+    pub their-below : served s t given < mostCalls
     their-below = served-below f fits s (x .past) t below (x .going) (x .layers) few (x .tables)
 
     pub running-next : (d : Kept)
@@ -157,7 +162,7 @@ module _ (f : Fields) (bytes : List ℕ) (fits : InRange f) where
       ends = ends-next;
     }
 
-    module _ {k p remote : ℕ} {r : Row} {m : NodeId} {ob : Applied} {e : Effect} {copies : List ℕ} {more : Counts} (called : Called s t k r m p ob e remote copies more) where
+    module _ {k p remote : ℕ} {r : Row} {m : NodeId} {ev : Event} {ob : Applied} {e : Effect} {copies : List ℕ} {more : Counts} (called : Called s t k r m ev p ob e remote copies more) where
       shape : Shaped s
       shape = x .going .sound .shape
 
@@ -166,6 +171,9 @@ module _ (f : Fields) (bytes : List ℕ) (fits : InRange f) where
 
       is-node : m ≡ target s t
       is-node = at-target s t shape range below called
+
+      is-the-event : ev ≡ event s t
+      is-the-event = is-event s t shape range below called
 
       is-effect : e ≡ effect s t
       is-effect = line-done s t shape range below called stay
@@ -180,27 +188,27 @@ module _ (f : Fields) (bytes : List ℕ) (fits : InRange f) where
         pub is-call : call ≡ place s t
         is-call = at ∙ ap (λ (e : Effect). 16 * t .0 + (e .thread .begun - 1)) is-effect
 
-        pub is-served : {their : ℕ} → their ≡ cond (eqb k 16) (getD given (m .0) 0) call → their ≡ served s t given
-        is-served z = rw (called .line-run, is-node, is-call) at z
+        pub is-served : {their : ℕ} {applies : Bool} → applies ≡ sameEvent ev Applies → their ≡ cond applies (getD given (m .0) 0) call → their ≡ served s t given
+        is-served q z = rw (q, is-the-event, is-node, is-call) at z
 
-      running-booked : {call their : ℕ} {order′ given′ turns′ : List ℕ} {counts : Counts} {d mine theirs : Kept} → counts ≡ wrapped (plus (s .counts) more)
-          → Booked d k m (ob .answer) e remote call their order′ given′ turns′ mine theirs
+      running-booked : {call their : ℕ} {order′ given′ turns′ : List ℕ} {counts : Counts} {d mine theirs : Kept} {applies : Bool} → counts ≡ wrapped (plus (s .counts) more)
+          → Booked d ev applies m (ob .answer) e remote call their order′ given′ turns′ mine theirs
           → Running f bytes (i + 1) (made s t m (ob .object) e copies counts) (set (set kept call mine) their theirs) order′ given′ turns′
       running-booked {d = d} {mine = mine} {theirs = theirs} sum b =
           let after = entered-by s t shape range below called is-effect (sum ∙ fits-wrapped _ fits-counts) in
           let at = is-call (b .of-call) in
-          let to = is-served (b .of-call) (b .of-served) in
-          let own : mine ≡ afterEntry (getD kept (place s t) d) (line s t) (references s t .remote) = rw (called .line-run, is-remote, at) at (b .of-mine) in
-          let other : theirs ≡ afterServing (getD (enteredCalls s t d kept) (served s t given) d) (eqb (line s t) 16) (applied s t .answer) (t .0) (getD turns (t .0) 0) =
-          rw (called .line-run, is-applied s t shape range below called, own, at, to) at (b .of-theirs) in
+          let to = is-served (b .of-call) (b .of-applies) (b .of-served) in
+          let own : mine ≡ afterEntry (getD kept (place s t) d) (event s t) (references s t .remote) = rw (is-the-event, is-remote, at) at (b .of-mine) in
+          let other : theirs ≡ afterServing (getD (enteredCalls s t d kept) (served s t given) d) (sameEvent (event s t) Applies) (applied s t .answer) t (getD turns (t .0) 0) =
+          rw (b .of-applies, is-the-event, is-applied s t shape range below called, own, at, to) at (b .of-theirs) in
           rw (
             after,
             other,
             own,
             to,
-            rw (called .line-run, at) at (b .of-order),
-            rw (called .line-run, at) at (b .of-given),
-            rw (called .line-run) at (b .of-turns),
+            rw (is-the-event, at) at (b .of-order),
+            rw (is-the-event, at) at (b .of-given),
+            rw (is-the-event) at (b .of-turns),
             at,
           ) (running-next d)
 
@@ -220,27 +228,27 @@ changed s ob counts = record {
   counts = counts;
 }
 
--- line 16 alone puts an object in its place
+-- an entry that applies puts an object in its place
 abbrev withObject : State → Object → State
 withObject s ob = changed s ob (s .counts)
 
--- what the branch for line 16 leaves: the answer and the state with what was applied, if anything was
+-- what the branch for it leaves: the answer and the state with what was applied, if anything was
 pub record Serves (s J : State) (answer : Answer) (ob : Applied) : Type 0 where
   pub answers : answer ≡ ob .answer
   pub state : J ≡ withObject s (ob .object)
 
-module _ (s J : State) (answer : Answer) (k : ℕ) (req : Announced) where
-  pub at-16 : {ob : Applied} → k ≡ 16 → ob ≡ servedBy (s .kind) (s .capacity) (s .object) req → answer ≡ ob .answer → J ≡ withObject s (ob .object)
-      → Serves s J answer (appliedAt k (s .kind) (s .capacity) (s .object) req)
-  at-16 q e a j = rw (eq-eqb k 16 q, ← e) (record { answers = a; state = j })
+module _ (s J : State) (answer : Answer) (ev : Event) (req : Announced) where
+  pub serves-one : {ob : Applied} → sameEvent ev Applies ≡ true → ob ≡ servedBy (s .kind) (s .capacity) (s .object) req → answer ≡ ob .answer → J ≡ withObject s (ob .object)
+      → Serves s J answer (appliedAt ev (s .kind) (s .capacity) (s .object) req)
+  serves-one q e a j = rw (q, ← e) (record { answers = a; state = j })
 
-  pub not-at-16 : (k ≡ 16 → ⊥) → answer ≡ Empty → J ≡ s → Serves s J answer (appliedAt k (s .kind) (s .capacity) (s .object) req)
-  not-at-16 q a j = rw (ne-eqb k 16 q) (record { answers = a; state = j })
+  pub serves-none : sameEvent ev Applies ≡ false → answer ≡ Empty → J ≡ s → Serves s J answer (appliedAt ev (s .kind) (s .capacity) (s .object) req)
+  serves-none q a j = rw q (record { answers = a; state = j })
 
 -- what the loop holds: what it read once, and the run
 pub record Looping (bytes : List ℕ) (rows : List Row) (n h : ℕ) (kind : Kind) (capacity i : ℕ) (s : State) (kept : List Kept) (order given turns : List ℕ) : Type 0 where
   pub fits : InRange (fieldsIn bytes)
-  pub table : rows ≡ map rowOf (Blank ∷ printed)
+  pub table : rows ≡ map rowOf (L0 ∷ printed)
   pub threads : n ≡ s .n
   pub limit : h ≡ s .h
   pub object : kind ≡ s .kind
@@ -249,9 +257,9 @@ pub record Looping (bytes : List ℕ) (rows : List Row) (n h : ℕ) (kind : Kind
   pub running : Running (fieldsIn bytes) bytes i s kept order given turns
 
 -- the start of the loop
-pub looping-start : {bytes : List ℕ} {rows : List Row} {from : ℕ} {s : State} {kept : List Kept} → rows ≡ map rowOf (Blank ∷ printed) → kept ≡ replicate 256 unkept
+pub looping-start : {bytes : List ℕ} {rows : List Row} {from : ℕ} {s : State} {kept : List Kept} → rows ≡ map rowOf (L0 ∷ printed) → kept ≡ replicate mostCalls unkept
     → Startable (fieldsIn bytes) bytes from s
-    → Looping bytes rows (s .n) (s .h) (s .kind) (s .capacity) from s kept (replicate 256 0) (replicate 17 4335) (replicate 16 65535)
+    → Looping bytes rows (s .n) (s .h) (s .kind) (s .capacity) from s kept (replicate mostCalls 0) (replicate mostNodes (placeOf noCall)) (replicate 16 noTurn)
 looping-start {bytes = bytes} {from = from} table fresh ready =
     let running = running-start (fieldsIn bytes) bytes (ready .fits) from (ready .schedule) in
     record {
@@ -268,10 +276,10 @@ looping-start {bytes = bytes} {from = from} table fresh ready =
 module _ {bytes : List ℕ} {rows : List Row} {n h capacity i : ℕ} {kind : Kind} {s : State} {kept : List Kept} {order given turns : List ℕ}
     (x : Looping bytes rows n h kind capacity i s kept order given turns) where
   -- one more entry
-  pub looping-next : (inside : i < length bytes) {k p remote call their : ℕ} {r : Row} {m : NodeId} {ob : Applied} {e : Effect} {copies order′ given′ turns′ : List ℕ} {more counts : Counts} {d mine theirs : Kept}
-      {J : State} {answer : Answer} → Called s (record { 0 = getD bytes i 0 }) k r m p ob e remote copies more → Serves s J answer ob → counts ≡ wrapped (plus (s .counts) more)
-      → Booked (fieldsIn bytes) bytes (x .fits) (x .running) inside d k m answer e remote call their order′ given′ turns′ mine theirs
-      → Looping bytes rows n h kind capacity (i + 1) (made J (record { 0 = getD bytes i 0 }) m (J .object) e copies counts) (set (set kept call mine) their theirs) order′ given′ turns′
+  pub looping-next : (inside : i < length bytes) {k p remote call their : ℕ} {r : Row} {m : NodeId} {ev : Event} {applies : Bool} {ob : Applied} {e : Effect} {copies order′ given′ turns′ : List ℕ} {more counts : Counts} {d mine theirs : Kept}
+      {J : State} {answer : Answer} → Called s (threadId (getD bytes i 0)) k r m ev p ob e remote copies more → Serves s J answer ob → counts ≡ wrapped (plus (s .counts) more)
+      → Booked (fieldsIn bytes) bytes (x .fits) (x .running) inside d ev applies m answer e remote call their order′ given′ turns′ mine theirs
+      → Looping bytes rows n h kind capacity (i + 1) (made J (threadId (getD bytes i 0)) m (J .object) e copies counts) (set (set kept call mine) their theirs) order′ given′ turns′
   looping-next inside called serves sum b =
       let next = running-booked (fieldsIn bytes) bytes (x .fits) (x .running) inside called sum (rw (serves .answers) at b) in
       rw (serves .state) (record {
@@ -290,4 +298,4 @@ module _ {bytes : List ℕ} {rows : List Row} {n h capacity i : ℕ} {kind : Kin
   looping-ends done =
       let run = x .running in
       let whole = ends-none (fieldsIn bytes) bytes (x .fits) run done in
-      rw (← whole, run .going .counted .counts, run .tables .swaps, is-tabled (λ p. keptOf (run .past) (callAt p)) kept 256 unkept (run .tables .calls-long) (run .tables .calls)) refl
+      rw (← whole, run .going .counted .counts, run .tables .swaps, is-tabled (λ p. keptOf (run .past) (callAt p)) kept mostCalls unkept (run .tables .calls-long) (run .tables .calls)) refl

@@ -2,16 +2,17 @@
 use Prim.Native.Nat.{ℕ, zero, suc, _+_, _*_, _≤_}
 use mathlib.Core.Path.{_≡_}
 use mathlib.Core.Bool.{cond}
-use mathlib.Core.List.{List, [], _∷_, map, reverse}
+use mathlib.Core.List.{List, [], _∷_, map}
 use lib.ListN.{length, drop, replicate}
 use lib.Dec.{ltb}
 use Rattle.object.specs.declared.Kind.the-variants.{Queue}
-use Rattle.bench_file.specs.Layout.{Fields, Judgement, accepted, refusedBy, judgeOf}
+use Rattle.bench_file.specs.Layout.{Fields, requestsOf, Judgement, accepted, refusedBy, judgeOf}
 use Rattle.bench_file.specs.Bytes.{InRange}
-use Rattle.bench_file.specs.Cursor.{requestsOf}
+use Rattle.machine.specs.Sizes.{mostCalls}
 use Rattle.state.specs.declared.State.{State}
-use Rattle.claims.specs.Entries.{Entry, filled, startOf, entriesOf}
-use Rattle.claims.specs.Terms.{swapOrder, countsOf}
+use Rattle.history.specs.Entries.{Entry}
+use Rattle.history.specs.Terms.{swapOrder, countsOf}
+use Rattle.claims.specs.Entries.{filled, startOf, historyOf}
 use Rattle.claims.specs.Result.{counted}
 use Rattle.runner.specs.declared.Played.{Played}
 use Rattle.kept.specs.Kept.{placeOf, callAt, keptOf, unkept}
@@ -38,19 +39,19 @@ tabled value from (suc k) = value from ∷ tabled value (from + 1) k
 
 -- what is left after all entries of a file
 abbrev playedBy : List Entry → Played
-playedBy run = record {
+playedBy history = record {
   refusal = 0;
-  counts = countsOf run;
-  kept = tabled (λ p. keptOf run (callAt p)) 0 256;
-  order = filled 256 0 (map placeOf (swapOrder run));
+  counts = countsOf history;
+  kept = tabled (λ p. keptOf history (callAt p)) 0 mostCalls;
+  order = filled mostCalls 0 (map placeOf (swapOrder history));
 }
 
 abbrev pub playedOf : Fields → Played
-playedOf f = playedBy (reverse (entriesOf f))
+playedOf f = playedBy (historyOf f)
 
 -- nothing is kept of a refusal
 abbrev pub unplayed : ℕ → Played
-unplayed number = record { refusal = number; counts = counted 0 0 0 0 0; kept = replicate 256 unkept; order = replicate 256 0 }
+unplayed number = record { refusal = number; counts = counted 0 0 0 0 0; kept = replicate mostCalls unkept; order = replicate mostCalls 0 }
 
 -- a file's run with so many bytes lent for its records: 16 for each request in the file, performed or not, else 13
 abbrev pub playedIn : ℕ → Judgement → Played

@@ -3,6 +3,7 @@ ghost use mathlib.Core.Path.{_≡_};
 ghost use Rattle.bench_file.specs.Layout.{judgeOf};
 ghost use Rattle.runner.specs.Played.{fieldsIn, Startable, playedOf, unplayed, playedIn};
 use kept::Kept;
+use machine::Event;
 use machine::Field;
 use machine::ThreadId;
 use object::Answer;
@@ -14,8 +15,8 @@ use state::State;
 pub struct Played {
     pub refusal: u8,
     pub counts: Counts,
-    pub kept: [Kept; 256],
-    pub order: [u16; 256],
+    pub kept: [Kept; machine::CALLS],
+    pub order: [u16; machine::CALLS],
 }
 
 // The run of a file from its fresh machine, in place. The schedule stands from a place on to the file's end.
@@ -29,9 +30,9 @@ fn from_start(file: &[u8], schedule: usize, start: State) -> Played
     let kind = start.kind;
     let capacity = start.capacity;
     let mut state = start;
-    let mut kept = [kept::unkept(); 256];
-    let mut order = [0u16; 256];
-    let mut given = [kept::NO_CALL; 17];
+    let mut kept = [kept::unkept(); machine::CALLS];
+    let mut order = [0u16; machine::CALLS];
+    let mut given = [kept::NO_CALL; machine::NODES];
     let mut turns = [kept::NO_TURN; 16];
     let mut i = schedule;
     while i < file.len() {
@@ -39,35 +40,36 @@ fn from_start(file: &[u8], schedule: usize, start: State) -> Played
         let t = thread.0 as usize;
         let named = state.threads[t];
         let line = machine::line_run(named);
+        let row = rows[line as usize];
+        let row_event = row.event;
         // Two kinds of entry change nothing but a count: a blank, and a spin on a valid copy.
-        if line == 0 {
+        if machine::same_event(row_event, Event::Blank) {
             state.counts.blanks += 1;
             i += 1;
             continue;
         }
-        if line == 9 {
-            let cur = named.cur;
-            let c = cur.0 as usize;
-            let at = copies::place(cur, Field::Wait);
-            if state.nodes[c].wait & copies::has_copy(state.copies[at], thread) {
+        let pointer = row.node;
+        let target = machine::pointed(pointer, named);
+        let m = target.0 as usize;
+        if machine::same_event(row_event, Event::Spins) {
+            let at = copies::place(target, Field::Wait);
+            if state.nodes[m].wait & copies::has_copy(state.copies[at], thread) {
                 state.counts.spins += 1;
                 i += 1;
                 continue;
             }
         }
-        let row = rows[line as usize];
-        let pointer = row.node;
-        let target = machine::pointed(pointer, named);
-        let m = target.0 as usize;
         let node = state.nodes[m];
         let req = node.req;
+        let event = machine::event_in(row_event, node);
+        let applies = machine::same_event(event, Event::Applies);
         let place = step::call_place(thread, named.begun);
         let slot = state.requests[place];
         let request = slot.request;
         let tail = state.tail;
         let counts = state.counts;
         let mut answer = Answer::Empty;
-        if line == 16 {
+        if applies {
             let object = state.object;
             let applied = step::served_by(kind, capacity, object, req);
             let object_after = applied.object;
@@ -75,8 +77,10 @@ fn from_start(file: &[u8], schedule: usize, start: State) -> Played
             state.object = object_after;
         }
         let effect = machine::run_line(named, node, tail, h, request, answer);
-        let remote = copies::refer_all(&mut state.copies, row, target, thread, n);
-        let more = step::more_of(line, node.wait, remote);
+        // The row's accesses are read here, where alone they are needed.
+        let accesses = rows[line as usize];
+        let remote = copies::refer_all(&mut state.copies, accesses, target, thread, n);
+        let more = step::more_of(event, remote);
         let thread_after = effect.thread;
         let node_after = effect.node;
         let tail_after = effect.tail;
@@ -87,21 +91,21 @@ fn from_start(file: &[u8], schedule: usize, start: State) -> Played
         state.counts = counts_after;
         let call = step::call_place(thread, thread_after.begun);
         let turn = turns[t];
-        let served = kept::served_place(line == 16, given[m], call);
+        let served = kept::served_place(applies, given[m], call);
         kept::note_entry(
             &mut turns,
             &mut given,
             &mut order,
-            line,
+            event,
             thread,
             tail,
             counts,
             call,
         );
         let mine = kept[call];
-        kept[call] = kept::after_entry(mine, line, remote);
+        kept[call] = kept::after_entry(mine, event, remote);
         let theirs = kept[served];
-        kept[served] = kept::after_serving(theirs, line == 16, answer, thread, turn);
+        kept[served] = kept::after_serving(theirs, applies, answer, thread, turn);
         i += 1;
     }
     let counts = state.counts;
@@ -126,8 +130,8 @@ fn unplayed(number: u8) -> Played
             spins: 0,
             remote: 0,
         },
-        kept: [kept::unkept(); 256],
-        order: [0u16; 256],
+        kept: [kept::unkept(); machine::CALLS],
+        order: [0u16; machine::CALLS],
     }
 }
 

@@ -2,7 +2,7 @@
 use Prim.Native.Nat.{ℕ, _+_, _-_, _^_, _<_}
 use native.Mathlib.Omega.{arith}
 use mathlib.Core.Path.{_≡_, refl, sym, ap, ap₂, _∙_}
-use mathlib.Core.Bool.{and-eq-true-iff}
+use mathlib.Core.Bool.{Bool, true}
 use mathlib.Core.Logic.{⊎-elim}
 use mathlib.Core.List.{List, _∷_}
 use lib.ListN.{length, getD, replicate, List·getD-map}
@@ -14,14 +14,19 @@ use Rattle.machine.specs.declared.Announced.{Announced}
 use Rattle.machine.specs.declared.Effect.{Effect}
 use Rattle.machine.specs.declared.Row.{Row}
 use Rattle.machine.specs.declared.ThreadId.{ThreadId}
+use Rattle.machine.specs.declared.Event.{Event}
+use Rattle.machine.specs.declared.Event.the-variants.{Blank, Spins}
 use Rattle.machine.specs.Effect.{effectOf}
-use Rattle.machine.specs.Lines.{Blank, printed, lineOf, silent, rowOf, accessesOf}
+use Rattle.machine.specs.Lines.{L0, printed, lineOf, rowOf, sameEvent, accessesOf}
+use Rattle.machine.specs.Sizes.{mostCalls, mostNodes}
 use Rattle.copies.specs.Remote.{Referred, referred}
 use Rattle.state.specs.declared.State.{State}
-use Rattle.step.specs.Entry.{zeroNode, zeroSlot, named, line, servedBy, appliedAt}
+use Rattle.step.specs.Entry.{zeroNode, zeroSlot, named, target, servedBy, appliedAt}
+use Rattle.step.specs.Entry.{row as row-now}
 use Rattle.step.proofs.Entering.{is-target, Called}
-use Rattle.runner.proofs.Running.{Looping, below, thread-few, line-few, node-few, slot-few, call-below, their-below, is-call, is-served, Serves, at-16, not-at-16, looping-start, looping-next, looping-ends}
-use Rattle.runner.proofs.Quiet.{Quiet, blank-quiet, spin-target, Spins, spinMore, spin-quiet, counts-fit, looping-quiet}
+use Rattle.history.specs.Entries.{threadId}
+use Rattle.runner.proofs.Running.{Looping, below, thread-few, line-few, node-few, slot-few, call-below, their-below, is-call, is-served, Serves, serves-one, serves-none, looping-start, looping-next, looping-ends}
+use Rattle.runner.proofs.Quiet.{Quiet, blank-quiet, Spinning, spinning, spinMore, spin-quiet, counts-fit, looping-quiet}
 use Rattle.runner.proofs.from_start.Statement.{statement}
 use Rattle.runner.proofs.from_start.Tie as tie
 
@@ -37,26 +42,38 @@ abbrev μ-loop : tie.MeasureT-loop
 abbrev entry : tie.After-line-run Inv-loop μ-loop → tie.In-loop Inv-loop μ-loop
 entry c = c .before .before .before .before
 
-abbrev nine : tie.Then2 Inv-loop μ-loop → tie.After-line-run Inv-loop μ-loop
-nine c = c .before .before
-
-abbrev tested : tie.After-place Inv-loop μ-loop → tie.Then2 Inv-loop μ-loop
-tested c = c .before .before .before
-
-abbrev entry-spun : tie.Then3 Inv-loop μ-loop → tie.In-loop Inv-loop μ-loop
-entry-spun c = entry (nine (tested (c .before .before .before)))
+abbrev rowed : tie.After-same-event Inv-loop μ-loop → tie.After-line-run Inv-loop μ-loop
+rowed c = c .before .before
 
 abbrev lined : tie.After-pointed Inv-loop μ-loop → tie.After-line-run Inv-loop μ-loop
-lined c = c .before .before .before .before
+lined c = rowed (c .before .before)
+
+abbrev tested : tie.After-same-event2 Inv-loop μ-loop → tie.After-pointed Inv-loop μ-loop
+tested c = c .before .before
+
+abbrev waited : tie.After-place Inv-loop μ-loop → tie.After-pointed Inv-loop μ-loop
+waited c = tested (c .before .before)
+
+abbrev entry-spun : tie.Then3 Inv-loop μ-loop → tie.In-loop Inv-loop μ-loop
+entry-spun c = entry (lined (waited (c .before .before .before)))
+
+abbrev told : tie.After-event-in Inv-loop μ-loop → tie.After-pointed Inv-loop μ-loop
+told c = tested (c .before .before .before)
+
+abbrev eventful : tie.After-call-place Inv-loop μ-loop → tie.After-event-in Inv-loop μ-loop
+eventful c = c .before .before
 
 abbrev pointed : tie.After-call-place Inv-loop μ-loop → tie.After-pointed Inv-loop μ-loop
-pointed c = c .before .before .before
+pointed c = told (eventful c)
 
 abbrev placed : tie.Joined4 Inv-loop μ-loop → tie.After-call-place Inv-loop μ-loop
 placed c = c .before .before .before .before
 
+abbrev line-of : tie.After-run-line Inv-loop μ-loop → tie.After-line-run Inv-loop μ-loop
+line-of c = lined (pointed (placed (c .before)))
+
 abbrev joined : tie.After-more-of Inv-loop μ-loop → tie.Joined4 Inv-loop μ-loop
-joined c = c .before .before .before .before
+joined c = c .before .before .before .before .before
 
 abbrev counted : tie.After-call-place2 Inv-loop μ-loop → tie.After-more-of Inv-loop μ-loop
 counted c = c .before .before .before .before .before
@@ -67,21 +84,21 @@ node-of c = pointed (placed (joined c))
 abbrev entry-of : tie.After-more-of Inv-loop μ-loop → tie.In-loop Inv-loop μ-loop
 entry-of c = entry (lined (node-of c))
 
--- its state and its thread, the row of its line, and what line 16 applies
+-- its state and its thread, the row of its line, and what it applies
 abbrev state : tie.In-loop Inv-loop μ-loop → State
 state c = c .before .loop .state
 
 abbrev thread : tie.In-loop Inv-loop μ-loop → ThreadId
-thread c = record { 0 = getD (c .before .before .before .before .before .args .file .now) (c .before .loop .i) 0 }
+thread c = threadId (getD (c .before .before .before .before .before .args .file .now) (c .before .loop .i) 0)
 
 abbrev row : tie.After-line-run Inv-loop μ-loop → Row
-row c = getD (entry c .before .before .before .all-rows .result) (c .line-run .result) silent
+row c = getD (entry c .before .before .before .all-rows .result) (c .line-run .result) (rowOf L0)
 
 abbrev req : tie.After-pointed Inv-loop μ-loop → Announced
 req c = getD (state (entry (lined c)) .nodes) (c .pointed .result .0) zeroNode .req
 
-abbrev applied : tie.After-pointed Inv-loop μ-loop → Applied
-applied c = let s = state (entry (lined c)) in appliedAt (lined c .line-run .result) (s .kind) (s .capacity) (s .object) (req c)
+abbrev applied : tie.After-event-in Inv-loop μ-loop → Applied
+applied c = let s = state (entry (lined (told c))) in appliedAt (c .event-in .result) (s .kind) (s .capacity) (s .object) (req (told c))
 
 -- what the entry reads lies within the arrays
 thread-below : (c : tie.In-loop Inv-loop μ-loop) → thread c .0 < 16
@@ -95,44 +112,42 @@ line-below c =
 
 row-of : (c : tie.After-line-run Inv-loop μ-loop) → row c ≡ rowOf (lineOf (c .line-run .result))
 row-of c =
-    ap (λ (l : List Row). getD l (c .line-run .result) silent) (entry c .before .loop .inv .table)
-    ∙ List·getD-map rowOf (Blank ∷ printed) (c .line-run .result) Blank
+    ap (λ (l : List Row). getD l (c .line-run .result) (rowOf L0)) (entry c .before .loop .inv .table)
+    ∙ List·getD-map rowOf (L0 ∷ printed) (c .line-run .result) L0
 
-node-below : (c : tie.After-pointed Inv-loop μ-loop) → c .pointed .result .0 < 17
+-- the row and its node are those of the step
+is-row : (c : tie.After-line-run Inv-loop μ-loop) → row c ≡ row-now (state (entry c)) (thread (entry c))
+is-row c = row-of c ∙ ap (λ (k : ℕ). rowOf (lineOf k)) (c .line-run .ensures)
+
+is-node : (c : tie.After-pointed Inv-loop μ-loop) → let at = entry (lined c) in c .pointed .result ≡ target (state at) (thread at)
+is-node c = let at = entry (lined c) in is-target (state at) (thread at) (lined c .line-run .ensures) (row-of (lined c)) (c .pointed .ensures)
+
+node-below : (c : tie.After-pointed Inv-loop μ-loop) → c .pointed .result .0 < mostNodes
 node-below c =
     let at = entry (lined c) in
     let now = at .before .loop .inv in
-    node-few _ _ (now .fits) (now .running) (at .loop-test .taken) (is-target (state at) (thread at) (lined c .line-run .ensures) (row-of (lined c)) (c .pointed .ensures))
+    node-few _ _ (now .fits) (now .running) (at .loop-test .taken) (is-node c)
 
 -- the place of the next entry is a number of 64 bits
 i-fits : (at : tie.In-loop Inv-loop μ-loop) → at .before .loop .i + 1 < 2 ^ 64
 i-fits at = omega (arith, at .loop-test .taken, at .before .before .before .before .before .good)
 
--- a blank
-blank : (c : tie.Then1 Inv-loop μ-loop) → let at = entry (c .before) in line (state at) (thread at) ≡ 0
-blank c = sym (c .before .line-run .ensures) ∙ c .if1 .taken
+-- what the tests for a blank and for a spin said
+row-says : (c : tie.After-line-run Inv-loop μ-loop) (event : Event) {test : Bool} → test ≡ sameEvent (row c .event) event → test ≡ true
+    → sameEvent (row-now (state (entry c)) (thread (entry c)) .event) event ≡ true
+row-says c event asked taken = ap (λ (r : Row). sameEvent (r .event) event) (sym (is-row c)) ∙ sym asked ∙ taken
 
--- the node of a spin, and what the tests for one said
-at-nine : (c : tie.Then2 Inv-loop μ-loop) → let at = entry (nine c) in line (state at) (thread at) ≡ 9
-at-nine c = sym (nine c .line-run .ensures) ∙ c .if2 .taken
+blank : (c : tie.Then1 Inv-loop μ-loop) → let at = entry (rowed (c .before)) in sameEvent (row-now (state at) (thread at) .event) Blank ≡ true
+blank c = row-says (rowed (c .before)) Blank (c .before .same-event .ensures) (c .if1 .taken)
 
-cur-below : (c : tie.Then2 Inv-loop μ-loop) → let at = entry (nine c) in named (state at) (thread at) .cur .0 < 17
-cur-below c =
-    let at = entry (nine c) in
-    let now = at .before .loop .inv in
-    node-few _ _ (now .fits) (now .running) (at .loop-test .taken) (sym (spin-target (state at) (thread at) (at-nine c)))
-
-spins : (c : tie.Then3 Inv-loop μ-loop) → Spins (state (entry-spun c)) (thread (entry-spun c))
+spins : (c : tie.Then3 Inv-loop μ-loop) → Spinning (state (entry-spun c)) (thread (entry-spun c))
 spins c =
     let test = c .before in
-    let s = state (entry-spun c) in
-    let cur = named s (thread (entry-spun c)) .cur in
-    let found = and-eq-true-iff (getD (s .nodes) (cur .0) zeroNode .wait) (test .has-copy .result) .0 (c .if3 .taken) in
-    record {
-      nine = at-nine (tested (test .before .before));
-      waits = found .0;
-      held = rw (test .has-copy .ensures, test .before .before .place .ensures) at (found .1);
-    }
+    let placing = test .before .before in
+    let branch = placing .before in
+    let at = waited placing in
+    spinning _ _ (test .has-copy .result) (row-says (lined at) Spins (branch .before .same-event2 .ensures) (branch .if2 .taken)) (is-node at) (placing .place .ensures)
+    (test .has-copy .ensures) (c .if3 .taken)
 
 spun : (c : tie.Then3 Inv-loop μ-loop) → let s = state (entry-spun c) in Quiet s (thread (entry-spun c)) (spinMore (s .counts))
 spun c =
@@ -140,29 +155,29 @@ spun c =
     let now = at .before .loop .inv in
     spin-quiet _ _ (now .running .going .sound) (below _ _ (now .fits) (now .running) (at .loop-test .taken)) (spins c)
 
-place-below : (c : tie.After-call-place Inv-loop μ-loop) → c .call-place .result < 256
+place-below : (c : tie.After-call-place Inv-loop μ-loop) → c .call-place .result < mostCalls
 place-below c =
     let at = entry (lined (pointed c)) in
     let now = at .before .loop .inv in
     slot-few _ _ (now .fits) (now .running) (at .loop-test .taken) (c .call-place .ensures)
 
 serves : (c : tie.Joined4 Inv-loop μ-loop)
-    → let at = pointed (placed c) in
-    Serves (state (entry (lined at))) (c .if4 .state) (c .if4 .answer) (applied at)
+    → Serves (state (entry (lined (pointed (placed c))))) (c .if4 .state) (c .if4 .answer) (applied (eventful (placed c)))
 serves c =
     let at = pointed (placed c) in
     let s = state (entry (lined at)) in
     let now = entry (lined at) .before .loop .inv in
-    let k = lined at .line-run .result in
+    let event = eventful (placed c) .event-in .result in
+    let applies = placed c .before .same-event3 in
     let same = ap₂ (λ (kind : Kind) (capacity : ℕ). servedBy kind capacity (s .object) (req at)) (now .object) (now .room) in
-    ⊎-elim (λ w. at-16 s (c .if4 .state) (c .if4 .answer) k (req at) (w .0 .taken) (w .2 .ensures ∙ same) (w .5) (w .4))
-    (λ w. not-at-16 s (c .if4 .state) (c .if4 .answer) k (req at) (w .0 .left) (w .2) (w .1))
+    ⊎-elim (λ w. serves-one s (c .if4 .state) (c .if4 .answer) event (req at) (sym (applies .ensures) ∙ w .0 .taken) (w .2 .ensures ∙ same) (w .5) (w .4))
+    (λ w. serves-none s (c .if4 .state) (c .if4 .answer) event (req at) (sym (applies .ensures) ∙ w .0 .left) (w .2) (w .1))
     (c .if4 .came)
 
 -- what the calls for the entry answered
 called : (c : tie.After-more-of Inv-loop μ-loop)
     → let at = node-of c in
-    Called (state (entry-of c)) (thread (entry-of c)) (lined at .line-run .result) (row (lined at)) (at .pointed .result) (placed (joined c) .call-place .result) (applied at) (c .before .before .before .run-line .result) (c .before .refer-all .result) (c .before .refer-all .last .0) (c .more-of .result)
+    Called (state (entry-of c)) (thread (entry-of c)) (lined at .line-run .result) (row (lined at)) (at .pointed .result) (eventful (placed (joined c)) .event-in .result) (placed (joined c) .call-place .result) (applied (eventful (placed (joined c)))) (c .before .before .before .before .run-line .result) (c .before .refer-all .result) (c .before .refer-all .last .0) (c .more-of .result)
 called c =
     let at = node-of c in
     let m = at .pointed .result in
@@ -178,28 +193,29 @@ called c =
       line-run = lined at .line-run .ensures;
       row-of = row-of (lined at);
       pointed-to = at .pointed .ensures;
+      event-in = eventful (placed (joined c)) .event-in .ensures;
       place = place .ensures;
       applied-at = refl;
-      effect-of = c .before .before .before .run-line .ensures ∙ ap₂ effect (now .limit) (served .answers);
+      effect-of = c .before .before .before .before .run-line .ensures ∙ ap₂ effect (now .limit) (served .answers);
       remote-of = refer .ensures .0 ∙ ap (λ (r : Referred). r .remote) references;
       copies-of = refer .ensures .1 ∙ ap (λ (r : Referred). r .copies) references;
       more-of = c .more-of .ensures;
     }
 
 -- the places of the entry's call and of the call that it serves
-call-small : (c : tie.After-call-place2 Inv-loop μ-loop) → c .call-place2 .result < 256
+call-small : (c : tie.After-call-place2 Inv-loop μ-loop) → c .call-place2 .result < mostCalls
 call-small c =
     let at = entry-of (counted c) in
     let now = at .before .loop .inv in
     let is = is-call _ _ (now .fits) (now .running) (at .loop-test .taken) (called (counted c)) (c .call-place2 .ensures) in
     omega (arith, is, call-below _ _ (now .fits) (now .running) (at .loop-test .taken))
 
-served-small : (c : tie.After-served-place Inv-loop μ-loop) → c .served-place .result < 256
+served-small : (c : tie.After-served-place Inv-loop μ-loop) → c .served-place .result < mostCalls
 served-small c =
     let placing = c .before in
     let at = entry-of (counted placing) in
     let now = at .before .loop .inv in
-    let is = is-served _ _ (now .fits) (now .running) (at .loop-test .taken) (called (counted placing)) (placing .call-place2 .ensures) (c .served-place .ensures) in
+    let is = is-served _ _ (now .fits) (now .running) (at .loop-test .taken) (called (counted placing)) (placing .call-place2 .ensures) (placed (joined (counted placing)) .before .same-event3 .ensures) (c .served-place .ensures) in
     omega (arith, is, their-below _ _ (now .fits) (now .running) (at .loop-test .taken))
 
 all-rows-requires : tie.Need-all-rows-requires Inv-loop μ-loop
@@ -209,10 +225,10 @@ unkept-requires : tie.Need-unkept-requires Inv-loop μ-loop
 unkept-requires c κs = search needs
 
 loop-holds : tie.Need-loop-holds Inv-loop μ-loop
-loop-holds c = looping-start (c .before .all-rows .ensures) (ap (replicate 256) (c .unkept .ensures)) (c .before .before .before .pre)
+loop-holds c = looping-start (c .before .all-rows .ensures) (ap (replicate mostCalls) (c .unkept .ensures)) (c .before .before .before .pre)
 
-shared-slice-read-t55 : tie.Need-shared-slice-read-t55 Inv-loop μ-loop
-shared-slice-read-t55 c = c .before .loop-test .taken
+shared-slice-read-t57 : tie.Need-shared-slice-read-t57 Inv-loop μ-loop
+shared-slice-read-t57 c = c .before .loop-test .taken
 
 cast-t : tie.Need-cast-t Inv-loop μ-loop
 cast-t c = omega (arith, thread-below (c .before .before))
@@ -226,35 +242,57 @@ element-copy-out-named c = thread-below (c .before .before)
 line-run-requires : tie.Need-line-run-requires Inv-loop μ-loop
 line-run-requires c κs = search needs
 
+cast-row : tie.Need-cast-row Inv-loop μ-loop
+cast-row c = omega (arith, line-below c)
+
+mul-row : tie.Need-mul-row Inv-loop μ-loop
+mul-row c = omega (arith, line-below c)
+
+array-copy-out-row : tie.Need-array-copy-out-row Inv-loop μ-loop
+array-copy-out-row c = line-below c
+
+same-event-requires : tie.Need-same-event-requires Inv-loop μ-loop
+same-event-requires c κs = search needs
+
 add-state : tie.Need-add-state Inv-loop μ-loop
-add-state c = let at = entry (c .before) in omega (arith, counts-fit (at .before .loop .inv) (at .loop-test .taken) (blank-quiet _ _ (blank c)))
+add-state c =
+    let at = entry (rowed (c .before)) in
+    omega (arith, counts-fit (at .before .loop .inv) (at .loop-test .taken) (blank-quiet _ _ (blank c)))
 
 add-i : tie.Need-add-i Inv-loop μ-loop
-add-i c = omega (arith, i-fits (entry (c .before .before)))
+add-i c = omega (arith, i-fits (entry (rowed (c .before .before))))
 
 loop-less : tie.Need-loop-less Inv-loop μ-loop
-loop-less c = omega (arith, entry (c .before .before) .loop-test .taken)
+loop-less c = omega (arith, entry (rowed (c .before .before)) .loop-test .taken)
 
 loop-again : tie.Need-loop-again Inv-loop μ-loop
-loop-again c = let at = entry (c .before .before) in looping-quiet (at .before .loop .inv) (at .loop-test .taken) (blank-quiet _ _ (blank (c .before)))
+loop-again c =
+    let at = entry (rowed (c .before .before)) in
+    looping-quiet (at .before .loop .inv) (at .loop-test .taken) (blank-quiet _ _ (blank (c .before)))
 
-cast-c : tie.Need-cast-c Inv-loop μ-loop
-cast-c c = omega (arith, cur-below (c .before .before))
+pointed-requires : tie.Need-pointed-requires Inv-loop μ-loop
+pointed-requires c κs = search needs
+
+cast-m : tie.Need-cast-m Inv-loop μ-loop
+cast-m c = omega (arith, node-below (c .before))
+
+same-event-requires-2 : tie.Need-same-event-requires-2 Inv-loop μ-loop
+same-event-requires-2 c κs = search needs
 
 place-requires : tie.Need-place-requires Inv-loop μ-loop
 place-requires c κs = search needs
 
 mul-if3 : tie.Need-mul-if3 Inv-loop μ-loop
-mul-if3 c = omega (arith, cur-below (tested c))
+mul-if3 c = omega (arith, node-below (waited c))
 
 element-copy-out-if3 : tie.Need-element-copy-out-if3 Inv-loop μ-loop
-element-copy-out-if3 c = cur-below (tested c)
+element-copy-out-if3 c = node-below (waited c)
 
 mul-has-copy : tie.Need-mul-has-copy Inv-loop μ-loop
-mul-has-copy c = omega (arith, c .place .ensures, cur-below (tested c))
+mul-has-copy c = omega (arith, c .place .ensures, node-below (waited c))
 
 element-copy-out-has-copy : tie.Need-element-copy-out-has-copy Inv-loop μ-loop
-element-copy-out-has-copy c = omega (arith, c .place .ensures, cur-below (tested c))
+element-copy-out-has-copy c = omega (arith, c .place .ensures, node-below (waited c))
 
 has-copy-requires : tie.Need-has-copy-requires Inv-loop μ-loop
 has-copy-requires c κs = search needs
@@ -271,26 +309,17 @@ loop-less-2 c = omega (arith, entry-spun (c .before) .loop-test .taken)
 loop-again-2 : tie.Need-loop-again-2 Inv-loop μ-loop
 loop-again-2 c = let at = entry-spun (c .before) in looping-quiet (at .before .loop .inv) (at .loop-test .taken) (spun (c .before))
 
-cast-row : tie.Need-cast-row Inv-loop μ-loop
-cast-row c = omega (arith, line-below (c .before .before))
-
-mul-row : tie.Need-mul-row Inv-loop μ-loop
-mul-row c = omega (arith, line-below (c .before .before))
-
-array-copy-out-row : tie.Need-array-copy-out-row Inv-loop μ-loop
-array-copy-out-row c = line-below (c .before .before)
-
-pointed-requires : tie.Need-pointed-requires Inv-loop μ-loop
-pointed-requires c κs = search needs
-
-cast-m : tie.Need-cast-m Inv-loop μ-loop
-cast-m c = omega (arith, node-below (c .before))
-
 mul-node : tie.Need-mul-node Inv-loop μ-loop
-mul-node c = omega (arith, node-below (c .before))
+mul-node c = omega (arith, node-below (tested (c .before)))
 
 element-copy-out-node : tie.Need-element-copy-out-node Inv-loop μ-loop
-element-copy-out-node c = node-below (c .before)
+element-copy-out-node c = node-below (tested (c .before))
+
+event-in-requires : tie.Need-event-in-requires Inv-loop μ-loop
+event-in-requires c κs = search needs
+
+same-event-requires-3 : tie.Need-same-event-requires-3 Inv-loop μ-loop
+same-event-requires-3 c κs = search needs
 
 call-place-requires : tie.Need-call-place-requires Inv-loop μ-loop
 call-place-requires c κs = search needs
@@ -306,6 +335,15 @@ served-by-requires c κs = search needs
 
 run-line-requires : tie.Need-run-line-requires Inv-loop μ-loop
 run-line-requires c κs = search needs
+
+cast-accesses : tie.Need-cast-accesses Inv-loop μ-loop
+cast-accesses c = omega (arith, line-below (line-of c))
+
+mul-accesses : tie.Need-mul-accesses Inv-loop μ-loop
+mul-accesses c = omega (arith, line-below (line-of c))
+
+array-copy-out-accesses : tie.Need-array-copy-out-accesses Inv-loop μ-loop
+array-copy-out-accesses c = line-below (line-of c)
 
 refer-all-requires : tie.Need-refer-all-requires Inv-loop μ-loop
 refer-all-requires c κs = search needs
@@ -397,6 +435,7 @@ loop-again-3 c =
     let noted = c .before .before .before .before .note-entry .ensures in
     looping-next (at .before .loop .inv) (at .loop-test .taken) (called more) (serves (joined more)) (call .before .plus .ensures)
     (record {
+      of-applies = placed (joined more) .before .same-event3 .ensures;
       of-call = call .call-place2 .ensures;
       of-served = c .before .before .before .before .before .before .before .before .served-place .ensures;
       of-turns = noted .0;
@@ -418,16 +457,22 @@ from-start-spec =
     all-rows-requires
     unkept-requires
     loop-holds
-    shared-slice-read-t55
+    shared-slice-read-t57
     cast-t
     mul-named
     element-copy-out-named
     line-run-requires
+    cast-row
+    mul-row
+    array-copy-out-row
+    same-event-requires
     add-state
     add-i
     loop-less
     loop-again
-    cast-c
+    pointed-requires
+    cast-m
+    same-event-requires-2
     place-requires
     mul-if3
     element-copy-out-if3
@@ -438,18 +483,18 @@ from-start-spec =
     add-i-2
     loop-less-2
     loop-again-2
-    cast-row
-    mul-row
-    array-copy-out-row
-    pointed-requires
-    cast-m
     mul-node
     element-copy-out-node
+    event-in-requires
+    same-event-requires-3
     call-place-requires
     mul-slot
     element-copy-out-slot
     served-by-requires
     run-line-requires
+    cast-accesses
+    mul-accesses
+    array-copy-out-accesses
     refer-all-requires
     more-of-requires
     plus-requires
