@@ -11,7 +11,7 @@ use Rattle.bench_file.specs.Bytes.{lowFirst, eachBytes}
 use Rattle.bench_file.proofs.Each.{eachBytes-append, eachBytes-length}
 use Rattle.bench_writer.specs.Writer.{pasted}
 use Rattle.bench_writer.proofs.Pasted.{length-pasted, pasted-part, pasted-behind}
-use Rattle.claims.specs.Terms.{Call}
+use Rattle.history.specs.Terms.{Call}
 use Rattle.kept.specs.declared.Kept.{Kept}
 use Rattle.kept.specs.Kept.{callAt, unkept}
 use Rattle.bench.specs.Records.{keptRecord, recordAt, recordsIn}

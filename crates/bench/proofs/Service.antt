@@ -1,37 +1,40 @@
 -- What a run in place leaves gives the file's result, its records in Swap order, and so what the service promises. Assumes that the file's bytes are bytes.
 use Prim.Native.Nat.{ℕ, zero, suc, _*_, _≤_, _<_}
 use native.Mathlib.Omega.{arith}
-use mathlib.Core.Path.{_≡_, refl, ap, _∙_}
+use mathlib.Core.Path.{_≡_, refl, sym, ap, _∙_}
 use mathlib.Core.Bool.{Bool, true, false, cond}
-use mathlib.Core.List.{List, [], _∷_, map, map-map, reverse}
-use lib.ListN.{length, getD, length-map, List·getD-append}
+use mathlib.Core.List.{List, [], _∷_, map, map-map}
+use lib.ListN.{length, getD, take, drop, length-map, List·getD-append}
 use lib.Seq.{take-at}
 use lib.Dec.{ltb}
 use borrow.Author.Tests.{ltb-false}
 use Rattle.object.specs.declared.Kind.{Kind}
 use Rattle.object.specs.declared.Request.{Request}
-use Rattle.object.specs.Each.{Each}
+use Rattle.object.specs.Each.{Each, sumOf}
 use Rattle.object.proofs.Each.{each-there, each-getD, each-map, map-each}
-use Rattle.bench_file.specs.Layout.{Fields, Judgement, accepted, refusedBy, judgeOf}
+use Rattle.bench_file.specs.Layout.{Fields, requestsOf, Judgement, accepted, refusedBy, judgeOf}
 use Rattle.bench_file.specs.Bytes.{Byte, RowInRange, InRange}
-use Rattle.bench_file.specs.Cursor.{sumOver}
 use Rattle.bench_file.proofs.RoundTrip.{accepted-in-range}
-use Rattle.claims.specs.Entries.{Entry, entriesOf, howMany}
-use Rattle.claims.specs.Terms.{Call, noCall, callOf, swapOrder, recordOf, recordsOf}
-use Rattle.claims.specs.Result.{Result, refusedResult, ranIf}
-use Rattle.claims.proofs.Parts.{one-each}
-use Rattle.claims.proofs.Places.{map-at}
+use Rattle.machine.specs.declared.Event.the-variants.{Swaps}
+use Rattle.machine.specs.Sizes.{mostCalls}
+use Rattle.history.specs.Entries.{Entry, howMany}
+use Rattle.history.specs.Terms.{Call, noCall, callOf, swapOrder, recordOf, recordsOf}
+use Rattle.history.proofs.Places.{map-at}
+use Rattle.history.proofs.Sums.{one-each}
+use Rattle.claims.specs.Entries.{historyOf}
+use Rattle.claims.specs.Result.{Result, refusedResult, resultAs}
 use Rattle.claims.proofs.Room.{all-swaps-asked, all-swaps-few}
-use Rattle.claims.proofs.Theorem.{holds-whole, demand-3-of-files}
+use Rattle.claims.proofs.Theorem.{claim-whole, demand-3-of-files}
 use Rattle.runner.specs.declared.Played.{Played}
 use Rattle.kept.specs.Kept.{placeOf, callAt, keptOf, unkept}
 use Rattle.runner.specs.Played.{playedOf, unplayed, playedIn}
 use Rattle.runner.proofs.Tabled.{tabled-at}
 use Rattle.runner.proofs.Tables.{call-there}
-use Rattle.bench.specs.declared.Ran.{Ran}
+use Rattle.bench.specs.declared.RunAnswer.{RunAnswer}
 use Rattle.bench.specs.Records.{keptRecord, recordAt, recordsIn}
 use Rattle.bench.specs.Run.{resultIn, written}
 use Rattle.bench.specs.Promise.{answerOf, Runs}
+use Rattle.bench.proofs.InPlace.{in-place}
 
 -- a request of the file is one of at most 16 of a thread of the file
 row-there : (object : Kind) (rows : List (List Request)) (t q : ℕ) → Each (RowInRange object) rows → q < length (getD rows t []) → (t < length rows) × (q < 16)
@@ -40,60 +43,60 @@ row-there object (row ∷ rows) zero q each b = omega (arith, each .0 .count)
 row-there object (row ∷ rows) (suc t) q each b = omega (arith, row-there object rows t q (each .1) b)
 
 module _ (f : Fields) (fits : InRange f) where
-  abbrev run : List Entry
-  run = reverse (entriesOf f)
+  abbrev history : List Entry
+  history = historyOf f
 
   -- a call of Swap order has one of the 256 places
   abbrev Placed : Call → Type 0
-  Placed c = (c .thread < 16) × (c .request < 16)
+  Placed c = (c .thread .0 < 16) × (c .request < 16)
 
-  placed : Each Placed (swapOrder run)
+  placed : Each Placed (swapOrder history)
   placed =
-      each-there Placed noCall (swapOrder run) (λ i b.
-      let there = row-there (f .head .object) (f .rows) _ _ (fits .rows) (holds-whole f fits .of-the-file i (omega (arith, one-each 5 callOf run))) in
+      each-there Placed noCall (swapOrder history) (λ i b.
+      let there = row-there (f .head .object) (f .rows) _ _ (fits .rows) (claim-whole f fits .of-the-file i (omega (arith, one-each Swaps callOf history))) in
       omega (arith, there, fits .threads, fits .head .n))
 
-  swapped : length (map placeOf (swapOrder run)) ≡ howMany 5 run
-  swapped = length-map (swapOrder run) placeOf ∙ one-each 5 callOf run
+  swapped : length (map placeOf (swapOrder history)) ≡ howMany Swaps history
+  swapped = length-map (swapOrder history) placeOf ∙ one-each Swaps callOf history
 
-  place-below : (i : ℕ) → i < howMany 5 run → getD (playedOf f .order) i 0 < 256
+  place-below : (i : ℕ) → i < howMany Swaps history → getD (playedOf f .order) i 0 < mostCalls
   place-below i b =
-      let there : i < length (swapOrder run) = omega (arith, one-each 5 callOf run) in
-      rw (List·getD-append (map placeOf (swapOrder run)) _ 0 i (omega (arith, swapped)), map-at placeOf (swapOrder run) i noCall 0 there)
-      (omega (arith, each-getD Placed (swapOrder run) i noCall placed there))
+      let there : i < length (swapOrder history) = omega (arith, one-each Swaps callOf history) in
+      rw (List·getD-append (map placeOf (swapOrder history)) _ 0 i (omega (arith, swapped)), map-at placeOf (swapOrder history) i noCall 0 there)
+      (omega (arith, each-getD Placed (swapOrder history) i noCall placed there))
 
   -- what is kept at its place gives its record
-  record-there : (c : Call) → Placed c → recordAt (playedOf f .kept) (placeOf c) ≡ recordOf run c
+  record-there : (c : Call) → Placed c → recordAt (playedOf f .kept) (placeOf c) ≡ recordOf history c
   record-there c b =
-      ap (keptRecord (callAt (placeOf c))) (tabled-at (λ p. keptOf run (callAt p)) 256 (placeOf c) unkept (omega arith))
-      ∙ ap (λ (c : Call). keptRecord c (keptOf run c)) (call-there c (b .1))
+      ap (keptRecord (callAt (placeOf c))) (tabled-at (λ p. keptOf history (callAt p)) mostCalls (placeOf c) unkept (omega arith))
+      ∙ ap (λ (c : Call). keptRecord c (keptOf history c)) (call-there c (b .1))
 
-  records-there : recordsIn (howMany 5 run) (playedOf f .kept) (playedOf f .order) ≡ recordsOf run
+  records-there : recordsIn (howMany Swaps history) (playedOf f .kept) (playedOf f .order) ≡ recordsOf history
   records-there =
-      ap (map (recordAt (playedOf f .kept))) (take-at (map placeOf (swapOrder run)) _ (howMany 5 run) swapped)
-      ∙ map-map (recordAt (playedOf f .kept)) placeOf (swapOrder run)
-      ∙ map-each _ (recordOf run) (swapOrder run) (each-map record-there (swapOrder run) placed)
+      ap (map (recordAt (playedOf f .kept))) (take-at (map placeOf (swapOrder history)) _ (howMany Swaps history) swapped)
+      ∙ map-map (recordAt (playedOf f .kept)) placeOf (swapOrder history)
+      ∙ map-each _ (recordOf history) (swapOrder history) (each-map record-there (swapOrder history) placed)
 
 -- the answer and the records of what was played
-abbrev ranBy : Played → Ran
-ranBy p = record { refusal = p .refusal; counts = p .counts }
+abbrev answerBy : Played → RunAnswer
+answerBy p = record { refusal = p .refusal; counts = p .counts }
 
 abbrev recordsBy : Played → List (List ℕ)
 recordsBy p = recordsIn (p .counts .records) (p .kept) (p .order)
 
 -- they are the result's; and the records, with so many bytes lent, can be laid
 pub record Shows (lent : ℕ) (p : Played) (result : Result) : Type 0 where
-  pub answer : ranBy p ≡ answerOf result
+  pub answer : answerBy p ≡ answerOf result
   pub records : recordsBy p ≡ result .records
-  pub few : p .counts .records ≤ 256
+  pub few : p .counts .records ≤ mostCalls
   pub room : 16 * p .counts .records ≤ lent
-  pub places : (i : ℕ) → i < p .counts .records → getD (p .order) i 0 < 256
+  pub places : (i : ℕ) → i < p .counts .records → getD (p .order) i 0 < mostCalls
 
 module _ (lent : ℕ) where
   refused-shows : (number : ℕ) → Shows lent (unplayed number) (refusedResult number)
   refused-shows number = record { answer = refl; records = refl; few = omega arith; room = omega arith; places = λ i b. absurd (omega arith) }
 
-  run-shows : (f : Fields) → InRange f → 16 * sumOver length (f .rows) ≤ lent → Shows lent (playedOf f) (ranIf (accepted f))
+  run-shows : (f : Fields) → InRange f → 16 * sumOf length (f .rows) ≤ lent → Shows lent (playedOf f) (resultAs (accepted f))
   run-shows f fits room = record {
     answer = refl;
     records = records-there f fits;
@@ -104,22 +107,40 @@ module _ (lent : ℕ) where
 
   shows : (j : Judgement) → ((f : Fields) → j ≡ accepted f → InRange f) → Shows lent (playedIn lent j) (resultIn lent j)
   shows (refusedBy number) fits = refused-shows number
-  shows (accepted f) fits = by-test (ltb lent (16 * sumOver length (f .rows))) (ltb-false _ _)
+  shows (accepted f) fits = by-test (ltb lent (16 * sumOf length (f .rows))) (ltb-false _ _)
     where
-      by-test : (short : Bool) → (short ≡ false → 16 * sumOver length (f .rows) ≤ lent)
-          → Shows lent (cond short (unplayed 13) (playedOf f)) (cond short (refusedResult 13) (ranIf (accepted f)))
+      by-test : (short : Bool) → (short ≡ false → 16 * sumOf length (f .rows) ≤ lent)
+          → Shows lent (cond short (unplayed 13) (playedOf f)) (cond short (refusedResult 13) (resultAs (accepted f)))
       by-test true enough = refused-shows 13
       by-test false enough = run-shows f (fits f refl) (enough refl)
+
+-- a result that is not refused has the records of the run
+records-run : (lent : ℕ) (f : Fields) → resultIn lent (accepted f) .refusal ≡ 0 → resultIn lent (accepted f) .records ≡ recordsOf (historyOf f)
+records-run lent f = by-test (ltb lent (16 * requestsOf f))
+  where
+    by-test : (short : Bool) → cond short (refusedResult 13) (resultAs (accepted f)) .refusal ≡ 0
+        → cond short (refusedResult 13) (resultAs (accepted f)) .records ≡ recordsOf (historyOf f)
+    by-test true e = absurd (omega (arith, e))
+    by-test false e = refl
 
 -- the service: what was played gives its answer, and its records the buffer
 module _ (bytes old : List ℕ) (p : Played) (each : Each Byte bytes) (is : p ≡ playedIn (length old) (judgeOf bytes)) where
   pub played-shows : Shows (length old) p (resultIn (length old) (judgeOf bytes))
   played-shows = rw is (shows (length old) (judgeOf bytes) (λ f e. accepted-in-range bytes f each e))
 
-  pub runs : (new : List ℕ) → new ≡ written old (recordsBy p) → Runs bytes old new (ranBy p)
+  pub runs : (new : List ℕ) → new ≡ written old (recordsBy p) → Runs bytes old new (answerBy p)
   runs new laid = record {
     answer = played-shows .answer;
     buffer = laid ∙ ap (written old) (played-shows .records);
     demand-3 = λ f e. demand-3-of-files bytes f each e;
-    whole = λ f e. holds-whole f (accepted-in-range bytes f each e);
+    whole = λ f e. claim-whole f (accepted-in-range bytes f each e);
+    in-place = λ f e done i b.
+        let claim = claim-whole f (accepted-in-range bytes f each e) in
+        let not-refused : resultIn (length old) (accepted f) .refusal ≡ 0 =
+        rw e at (sym (ap (λ (r : RunAnswer). r .refusal) (played-shows .answer)) ∙ done) in
+        let here : resultIn (length old) (judgeOf bytes) .records ≡ recordsOf (historyOf f) =
+        ap (λ (j : Judgement). resultIn (length old) j .records) e ∙ records-run (length old) f not-refused in
+        let laid-so : new ≡ written old (recordsOf (historyOf f)) = laid ∙ ap (written old) (played-shows .records ∙ here) in
+        ap (λ (l : List ℕ). take 16 (drop (16 * i) l)) laid-so
+        ∙ in-place (recordsOf (historyOf f)) _ (each-map (λ (bytes : List ℕ) size. size .0) (recordsOf (historyOf f)) (claim .bytes)) i (rw (claim .records) b);
   }

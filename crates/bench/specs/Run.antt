@@ -1,19 +1,23 @@
 -- What running a file gives, with so many bytes lent for its records: the result, and the bytes of the buffer. Document 01, 'The record of a call'.
-use Prim.Native.Nat.{ℕ, _*_}
+use Prim.Native.Nat.{ℕ, zero, suc, _*_}
 use mathlib.Core.Bool.{cond}
-use mathlib.Core.List.{List, _++_}
-use lib.ListN.{length, drop}
+use mathlib.Core.List.{List, [], _∷_, _++_}
+use lib.ListN.{length, take, drop}
 use lib.Dec.{ltb}
-use Rattle.bench_file.specs.Layout.{Judgement, accepted, refusedBy}
+use Rattle.bench_file.specs.Layout.{requestsOf, Judgement, accepted, refusedBy}
 use Rattle.bench_file.specs.Bytes.{eachBytes}
-use Rattle.bench_file.specs.Cursor.{requestsOf}
-use Rattle.claims.specs.Result.{Result, refusedResult, ranIf}
+use Rattle.claims.specs.Result.{Result, refusedResult, resultAs}
 
 -- a run needs 16 bytes for each request in the file, performed or not, else it is refused with 13
 abbrev pub resultIn : ℕ → Judgement → Result
-resultIn lent (accepted f) = cond (ltb lent (16 * requestsOf f)) (refusedResult 13) (ranIf (accepted f))
-resultIn lent (refusedBy number) = ranIf (refusedBy number)
+resultIn lent (accepted f) = cond (ltb lent (16 * requestsOf f)) (refusedResult 13) (resultAs (accepted f))
+resultIn lent (refusedBy number) = resultAs (refusedBy number)
 
 -- the buffer after it: the records one after the other from its first byte on, and its later bytes as they were
 abbrev pub written : List ℕ → List (List ℕ) → List ℕ
-written old records = let bytes = eachBytes (λ (one : List ℕ). one) records in bytes ++ drop (length bytes) old
+written old records = let bytes = eachBytes (λ (record-bytes : List ℕ). record-bytes) records in bytes ++ drop (length bytes) old
+
+-- so many records of 16 bytes, read from a buffer one after the other
+unfoldable pub recordsLaid : ℕ → List ℕ → List (List ℕ)
+recordsLaid zero bytes = []
+recordsLaid (suc count) bytes = take 16 bytes ∷ recordsLaid count (drop 16 bytes)

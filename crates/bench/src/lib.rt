@@ -4,6 +4,7 @@ use state::Counts;
 ghost use Prim.Native.Nat.{ℕ, _*_, _≤_, _<_};
 ghost use mathlib.Core.Path.{_≡_};
 ghost use lib.ListN.{length, getD};
+ghost use Rattle.machine.specs.Sizes.{mostCalls};
 ghost use Rattle.bench_file.specs.Bytes.{lowFirst};
 ghost use Rattle.step.specs.Entry.{oneIf};
 ghost use Rattle.kept.specs.Kept.{callAt};
@@ -12,7 +13,7 @@ ghost use Rattle.bench.specs.Records.{keptRecord, recordsIn};
 ghost use Rattle.bench.specs.Run.{written};
 
 // Refusal 0 with the five counts, or a refusal's number with all counts 0.
-pub struct Ran {
+pub struct RunAnswer {
     pub refusal: u8,
     pub counts: Counts,
 }
@@ -38,7 +39,7 @@ fn returned_byte(returned: bool) -> u8
 
 // The record of the call that has a place.
 fn record_bytes(place: u16, kept: Kept) -> [u8; 16]
-    requires { ⌜ place < 256 ⌝ }
+    requires { ⌜ place < mostCalls ⌝ }
     ensures { λ r. ⌜ r ≡ keptRecord (callAt place) kept ⌝ }
 {
     let value = low_first(kept.value);
@@ -66,9 +67,14 @@ fn record_bytes(place: u16, kept: Kept) -> [u8; 16]
 }
 
 // So many records, in Swap order, from the buffer's first byte on.
-fn put_records(out: &mut [u8], count: usize, kept: [Kept; 256], order: [u16; 256])
-    requires { ⌜ (count ≤ 256) × (16 * count ≤ length (now out)) ⌝ }
-    requires { ⌜ ((i : ℕ) → i < count → getD order i 0 < 256) ⌝ }
+fn put_records(
+    out: &mut [u8],
+    count: usize,
+    kept: [Kept; machine::CALLS],
+    order: [u16; machine::CALLS],
+)
+    requires { ⌜ (count ≤ mostCalls) × (16 * count ≤ length (now out)) ⌝ }
+    requires { ⌜ ((i : ℕ) → i < count → getD order i 0 < mostCalls) ⌝ }
     ensures { λ _. ⌜ now (out .exit) ≡ written (now (out .entry)) (recordsIn count kept order) ⌝ }
 {
     let mut i = 0usize;
@@ -82,7 +88,7 @@ fn put_records(out: &mut [u8], count: usize, kept: [Kept; 256], order: [u16; 256
 
 // Runs any bytes as a bench file; 13 where fewer than 16 bytes are lent for each request in the file. The records stand in Swap order from the
 // buffer's first byte on; a refusal has none.
-pub fn run(file: &[u8], out: &mut [u8]) -> Ran
+pub fn run(file: &[u8], out: &mut [u8]) -> RunAnswer
     ensures { λ r. ⌜ Runs (now (file .entry)) (now (out .entry)) (now (out .exit)) r ⌝ }
 {
     let played = runner::play(file, out.len());
@@ -91,5 +97,5 @@ pub fn run(file: &[u8], out: &mut [u8]) -> Ran
     let kept = played.kept;
     let order = played.order;
     put_records(out, counts.records as usize, kept, order);
-    Ran { refusal, counts }
+    RunAnswer { refusal, counts }
 }

@@ -9,7 +9,7 @@ use Rattle.bench_file.specs.declared.Judged.the-variants as Judged
 use Rattle.bench_file.specs.Layout.{judgeOf}
 use Rattle.bench_file.specs.Promise.{judgedAs, judgedRefusal, Judges}
 use Rattle.bench_writer.specs.declared.Written.{Written}
-use Rattle.bench.specs.declared.Ran.{Ran}
+use Rattle.bench.specs.declared.RunAnswer.{RunAnswer}
 use Rattle.listing.specs.declared.Listed.{Listed}
 
 -- of a file that is accepted: object, n, h, capacity, requests in all, schedule entries
@@ -24,8 +24,8 @@ pub record JudgedIn (bytes numbers : List ℕ) (r : ℕ) : Type 0 where
   pub judges : Judges bytes (judgedAs (judgeOf bytes))
 
 -- a run's refusal and its five counts
-abbrev pub ranIn : ℕ → List ℕ → Ran
-ranIn refusal numbers = record {
+abbrev pub answerIn : ℕ → List ℕ → RunAnswer
+answerIn refusal numbers = record {
   refusal = refusal;
   counts = record {
     records = getD numbers 0 0;

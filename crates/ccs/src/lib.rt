@@ -4,7 +4,7 @@ ghost use Rattle.bench_file.specs.Promise.{judgedRefusal};
 ghost use Rattle.bench_writer.specs.Writer.{givenBy, WritesAs};
 ghost use Rattle.bench.specs.Promise.{Runs};
 ghost use Rattle.listing.specs.Promise.{Lists};
-ghost use Rattle.ccs.specs.Numbers.{judgedNumbers, JudgedIn, ranIn, writtenIn, listedIn};
+ghost use Rattle.ccs.specs.Numbers.{judgedNumbers, JudgedIn, answerIn, writtenIn, listedIn};
 use bench_file::Judged;
 
 // A judgement's number, 0 for an accepted file.
@@ -60,10 +60,10 @@ pub extern "C" fn ccs_judge(file: &[u8], numbers: &mut [usize; 6]) -> u8
 // references; those of a refusal are 0.
 #[no_mangle]
 pub extern "C" fn ccs_run(file: &[u8], out: &mut [u8], numbers: &mut [u32; 5]) -> u8
-    ensures { λ r. ⌜ Runs (now (file .entry)) (now (out .entry)) (now (out .exit)) (ranIn r (now (numbers .exit))) ⌝ }
+    ensures { λ r. ⌜ Runs (now (file .entry)) (now (out .entry)) (now (out .exit)) (answerIn r (now (numbers .exit))) ⌝ }
 {
-    let ran = bench::run(file, out);
-    let counts = ran.counts;
+    let answer = bench::run(file, out);
+    let counts = answer.counts;
     *numbers = [
         counts.records,
         counts.turns,
@@ -71,7 +71,7 @@ pub extern "C" fn ccs_run(file: &[u8], out: &mut [u8], numbers: &mut [u32; 5]) -
         counts.spins,
         counts.remote,
     ];
-    ran.refusal
+    answer.refusal
 }
 
 // Writes the bench file of given fields into a lent buffer, and its length; the length of a refusal is 0.

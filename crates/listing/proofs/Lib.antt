@@ -3,5 +3,5 @@ pub mod Example
 pub mod Giving
 pub mod Laid
 pub mod Records
-pub mod Rows
+pub mod Lines
 pub mod Service

@@ -2,62 +2,63 @@
 use Prim.Native.Nat.{ℕ, _*_, _≤_}
 use native.Mathlib.Omega.{arith}
 use mathlib.Core.Path.{_≡_, sym, ap, subst, _∙_}
-use mathlib.Core.List.{List, _++_, reverse}
+use mathlib.Core.List.{List, _++_}
 use lib.ListN.{length, replicate}
 use borrow.Author.Tests.{le-ltb}
+use Rattle.object.specs.Each.{sumOf}
 use Rattle.bench_file.specs.declared.Head.{Head}
 use Rattle.bench_file.specs.declared.Judged.{Judged}
 use Rattle.bench_file.specs.declared.Judged.the-variants as Judged
 use Rattle.bench_file.specs.Layout.{Fields, Judgement, accepted, judgeOf}
 use Rattle.bench_file.specs.Promise.{Judges, judgedAs}
 use Rattle.bench_file.specs.Bytes.{InRange}
-use Rattle.bench_file.specs.Cursor.{sumOver}
 use Rattle.state.specs.declared.Counts.{Counts}
-use Rattle.claims.specs.Entries.{Entry, entriesOf}
-use Rattle.claims.specs.Terms.{recordsOf, countsOf}
-use Rattle.claims.specs.Result.{Result, ranIf}
+use Rattle.history.specs.Entries.{Entry}
+use Rattle.history.specs.Terms.{recordsOf, countsOf}
+use Rattle.claims.specs.Entries.{historyOf}
+use Rattle.claims.specs.Result.{Result, resultAs}
 use Rattle.claims.proofs.Room.{requests-few, all-swaps-few}
 use Rattle.loader.proofs.Answer.{accepted-fields, refused-number}
-use Rattle.bench.specs.declared.Ran.{Ran}
+use Rattle.bench.specs.declared.RunAnswer.{RunAnswer}
 use Rattle.bench.specs.Run.{resultIn, written}
 use Rattle.bench.specs.Promise.{Runs}
 use Rattle.listing.specs.Listing.{headLine, recordLines, refusalLine, listingOf}
-use Rattle.listing.specs.Laid.{rowsIn}
+use Rattle.bench.specs.Run.{recordsLaid}
 use Rattle.listing.proofs.Records.{listing-of-run}
 
-module _ {bytes rows : List ℕ} {ran : Ran} (runs : Runs bytes (replicate 4096 0) rows ran) (f : Fields) (fits : InRange f) (judged : judgeOf bytes ≡ accepted f) where
-  abbrev run : List Entry
-  run = reverse (entriesOf f)
+module _ {bytes records : List ℕ} {answer : RunAnswer} (runs : Runs bytes (replicate 4096 0) records answer) (f : Fields) (fits : InRange f) (judged : judgeOf bytes ≡ accepted f) where
+  abbrev history : List Entry
+  history = historyOf f
 
   -- 4,096 bytes are enough
-  result : resultIn 4096 (judgeOf bytes) ≡ ranIf (accepted f)
-  result = rw (judged, le-ltb 4096 (16 * sumOver length (f .rows)) (omega (arith, requests-few f fits)))
+  result : resultIn 4096 (judgeOf bytes) ≡ resultAs (accepted f)
+  result = rw (judged, le-ltb 4096 (16 * sumOf length (f .rows)) (omega (arith, requests-few f fits)))
 
-  counted : ran .counts ≡ countsOf run
-  counted = ap (λ (r : Ran). r .counts) (runs .answer) ∙ ap (λ (r : Result). r .counts) result
+  counted : answer .counts ≡ countsOf history
+  counted = ap (λ (r : RunAnswer). r .counts) (runs .answer) ∙ ap (λ (r : Result). r .counts) result
 
-  as-many : ran .counts .records ≡ length (recordsOf run)
+  as-many : answer .counts .records ≡ length (recordsOf history)
   as-many = ap (λ (c : Counts). c .records) counted ∙ sym (runs .whole f judged .records)
 
-  records-few : ran .counts .records ≤ 256
+  records-few : answer .counts .records ≤ 256
   records-few = omega (arith, ap (λ (c : Counts). c .records) counted, all-swaps-few f fits)
 
-  run-listed : headLine (f .head) (ran .counts) ++ recordLines 0 (rowsIn (ran .counts .records) rows) ≡ listingOf (judgeOf bytes)
+  run-listed : headLine (f .head) (answer .counts) ++ recordLines 0 (recordsLaid (answer .counts .records) records) ≡ listingOf (judgeOf bytes)
   run-listed =
-      let laid : rows ≡ written (replicate 4096 0) (recordsOf run) = runs .buffer ∙ ap (λ (r : Result). written (replicate 4096 0) (r .records)) result in
+      let laid : records ≡ written (replicate 4096 0) (recordsOf history) = runs .buffer ∙ ap (λ (r : Result). written (replicate 4096 0) (r .records)) result in
       rw (judged, laid, counted) (listing-of-run f _ _ (runs .whole f judged .bytes) (ap (λ (c : Counts). c .records) (sym counted) ∙ as-many))
 
 -- what the listing of an accepted file is made of
-pub record Listable (bytes rows : List ℕ) (ran : Ran) (head : Head) : Type 0 where
-  pub most : ran .counts .records ≤ 256
-  pub words : headLine head (ran .counts) ++ recordLines 0 (rowsIn (ran .counts .records) rows) ≡ listingOf (judgeOf bytes)
+pub record Listable (bytes records : List ℕ) (answer : RunAnswer) (head : Head) : Type 0 where
+  pub most : answer .counts .records ≤ 256
+  pub words : headLine head (answer .counts) ++ recordLines 0 (recordsLaid (answer .counts .records) records) ≡ listingOf (judgeOf bytes)
 
-pub listable : {bytes rows : List ℕ} {ran : Ran} {r : Judged} {head : Head} {requests entries : ℕ} → Runs bytes (replicate 4096 0) rows ran → Judges bytes r → r ≡ Judged.Accepted head requests entries
-    → Listable bytes rows ran head
-listable {bytes = bytes} {rows = rows} {ran = ran} runs judges is =
+pub listable : {bytes records : List ℕ} {answer : RunAnswer} {r : Judged} {head : Head} {requests entries : ℕ} → Runs bytes (replicate 4096 0) records answer → Judges bytes r → r ≡ Judged.Accepted head requests entries
+    → Listable bytes records answer head
+listable {bytes = bytes} {records = records} {answer = answer} runs judges is =
     let (f, judged, same) = accepted-fields (judgeOf bytes) (sym is ∙ judges .answer) in
     let fits = judges .exactly f .0 judged .0 in
-    subst (Listable bytes rows ran) same (record { most = records-few runs f fits judged; words = run-listed runs f fits judged })
+    subst (Listable bytes records answer) same (record { most = records-few runs f fits judged; words = run-listed runs f fits judged })
 
 pub refusal-listed : (j : Judgement) {number : ℕ} → Judged.Refused number ≡ judgedAs j → refusalLine number ≡ listingOf j
 unfolding listingOf

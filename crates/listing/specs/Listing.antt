@@ -1,7 +1,7 @@
 -- The listing of a file: document 01, 'The record of a call'.
 use Prim.Native.Nat.{ℕ, suc}
 use mathlib.Core.Bool.{cond}
-use mathlib.Core.List.{List, [], _∷_, _++_, reverse}
+use mathlib.Core.List.{List, [], _∷_, _++_}
 use lib.ListN.{getD, take, drop}
 use lib.Dec.{eqb}
 use Rattle.object.specs.declared.Kind.{Kind}
@@ -14,9 +14,9 @@ use Rattle.bench_file.specs.Layout.{Judgement, accepted, refusedBy}
 use Rattle.machine.specs.declared.RetVal.{RetVal}
 use Rattle.machine.specs.declared.RetVal.the-variants.{NoAnswer, Answered}
 use Rattle.state.specs.declared.Counts.{Counts}
-use Rattle.claims.specs.Entries.{entriesOf}
-use Rattle.claims.specs.Terms.{recordsOf, countsOf}
-use Rattle.listing.specs.Text.{text, decimal, line}
+use Rattle.history.specs.Terms.{recordsOf, countsOf}
+use Rattle.claims.specs.Entries.{historyOf}
+use Rattle.listing.specs.Text.{text, decimal, textLine}
 
 -- the object's word
 abbrev pub kindWord : Kind → List ℕ
@@ -37,7 +37,7 @@ countWords counts =
 -- mark, version, object, n, h and the five counts
 unfoldable pub headLine : Head → Counts → List ℕ
 headLine head counts =
-    line (text "CCS")
+    textLine (text "CCS")
     (text "1"
     ∷ kindWord (head .object)
     ∷ (text "n=" ++ decimal (head .n))
@@ -85,7 +85,7 @@ servingWords server turn remote over = servedWord 255 server ∷ servedWord 6553
 -- the line of a call: its order from 0, thread, request, mark word, value, and how it was served
 unfoldable pub callLine : ℕ → ℕ → ℕ → RetVal → ℕ → ℕ → ℕ → ℕ → List ℕ
 callLine order thread request ret server turn remote over =
-    line (decimal order)
+    textLine (decimal order)
     (decimal thread ∷ decimal request ∷ markWord ret ∷ valueWord ret ∷ servingWords server turn remote over)
 
 -- byte i of a record, and the number of so many bytes from i on
@@ -108,9 +108,9 @@ recordLines order (bytes ∷ records) = recordLine order bytes ++ recordLines (s
 
 -- `refused N`
 unfoldable pub refusalLine : ℕ → List ℕ
-refusalLine number = line (text "refused") (decimal number ∷ [])
+refusalLine number = textLine (text "refused") (decimal number ∷ [])
 
 -- the listing of a file that is judged: its refusal, or the head line and a line a record of its run
 unfoldable pub listingOf : Judgement → List ℕ
-listingOf (accepted f) = let run = reverse (entriesOf f) in headLine (f .head) (countsOf run) ++ recordLines 0 (recordsOf run)
+listingOf (accepted f) = let history = historyOf f in headLine (f .head) (countsOf history) ++ recordLines 0 (recordsOf history)
 listingOf (refusedBy number) = refusalLine number

@@ -30,5 +30,5 @@ lineEnd [] = text "\n"
 lineEnd (word ∷ words) = text " " ++ (word ++ lineEnd words)
 
 -- a line: its first word and the rest
-abbrev pub line : List ℕ → List (List ℕ) → List ℕ
-line word words = word ++ lineEnd words
+abbrev pub textLine : List ℕ → List (List ℕ) → List ℕ
+textLine word words = word ++ lineEnd words

@@ -11,7 +11,8 @@ ghost use Prim.Native.Nat.{_+_, _*_, _≤_, _<_};
 ghost use lib.ListN.{length};
 ghost use Rattle.listing.specs.Text.{text, digit, decimal, lineEnd};
 ghost use Rattle.listing.specs.Listing.{kindWord, countWords, headLine, retOf, answerWord, markWord, valueWord, servedWord, endWord, servingWords, byteAt, numberAt, recordLine, recordLines, refusalLine};
-ghost use Rattle.listing.specs.Laid.{Laid, rowsIn, headMost, lineMost};
+ghost use Rattle.bench.specs.Run.{recordsLaid};
+ghost use Rattle.listing.specs.Laid.{Laid, headMost, lineMost};
 ghost use Rattle.listing.specs.Promise.{Gives, Lists, enoughBytes};
 
 // The listing of a file: refusal 0 and its length, or 13 with the buffer as it was.
@@ -148,58 +149,58 @@ fn put_end(out: &mut [u8], at: usize, over: u8) -> usize
 }
 
 // A byte of a record, and the numbers of two and of four bytes, the lowest first.
-fn byte(row: &[u8], i: usize) -> u32
-    requires { ⌜ i < length (now row) ⌝ }
-    ensures { λ r. ⌜ (r ≡ byteAt (now (row .entry)) i) × (r < 256) ⌝ }
+fn byte(bytes: &[u8], i: usize) -> u32
+    requires { ⌜ i < length (now bytes) ⌝ }
+    ensures { λ r. ⌜ (r ≡ byteAt (now (bytes .entry)) i) × (r < 256) ⌝ }
 {
-    row[i] as u32
+    bytes[i] as u32
 }
 
-fn number2(row: &[u8], i: usize) -> u32
-    requires { ⌜ i + 2 ≤ length (now row) ⌝ }
-    ensures { λ r. ⌜ (r ≡ numberAt (now (row .entry)) i 2) × (r < 65536) ⌝ }
+fn number2(bytes: &[u8], i: usize) -> u32
+    requires { ⌜ i + 2 ≤ length (now bytes) ⌝ }
+    ensures { λ r. ⌜ (r ≡ numberAt (now (bytes .entry)) i 2) × (r < 65536) ⌝ }
 {
-    byte(row, i) + 256 * byte(row, i + 1)
+    byte(bytes, i) + 256 * byte(bytes, i + 1)
 }
 
-fn number4(row: &[u8], i: usize) -> u32
-    requires { ⌜ i + 4 ≤ length (now row) ⌝ }
-    ensures { λ r. ⌜ r ≡ numberAt (now (row .entry)) i 4 ⌝ }
+fn number4(bytes: &[u8], i: usize) -> u32
+    requires { ⌜ i + 4 ≤ length (now bytes) ⌝ }
+    ensures { λ r. ⌜ r ≡ numberAt (now (bytes .entry)) i 4 ⌝ }
 {
-    number2(row, i) + 65536 * number2(row, i + 2)
+    number2(bytes, i) + 65536 * number2(bytes, i + 2)
 }
 
 // A record's line from its server on.
-fn put_serving(out: &mut [u8], at: usize, row: &[u8]) -> usize
-    requires { ⌜ (length (now row) ≡ 16) × (at + 43 ≤ length (now out)) ⌝ }
-    ensures { λ r. ⌜ Laid (now (out .entry)) at (lineEnd (servingWords (byteAt (now (row .entry)) 3) (numberAt (now (row .entry)) 13 2) (numberAt (now (row .entry)) 8 4) (byteAt (now (row .entry)) 12))) (now (out .exit)) r ⌝ }
+fn put_serving(out: &mut [u8], at: usize, bytes: &[u8]) -> usize
+    requires { ⌜ (length (now bytes) ≡ 16) × (at + 43 ≤ length (now out)) ⌝ }
+    ensures { λ r. ⌜ Laid (now (out .entry)) at (lineEnd (servingWords (byteAt (now (bytes .entry)) 3) (numberAt (now (bytes .entry)) 13 2) (numberAt (now (bytes .entry)) 8 4) (byteAt (now (bytes .entry)) 12))) (now (out .exit)) r ⌝ }
     ensures { λ r. ⌜ r ≤ at + 43 ⌝ }
 {
-    let server = put_served(out, at, 255, byte(row, 3));
-    let turn = put_served(out, server, 65535, number2(row, 13));
-    let remote = put_named(out, turn, b" ", number4(row, 8));
-    put_end(out, remote, row[12])
+    let server = put_served(out, at, 255, byte(bytes, 3));
+    let turn = put_served(out, server, 65535, number2(bytes, 13));
+    let remote = put_named(out, turn, b" ", number4(bytes, 8));
+    put_end(out, remote, bytes[12])
 }
 
 // The line of a record, from its order and its 16 bytes.
-fn put_record(out: &mut [u8], at: usize, order: u32, row: &[u8]) -> usize
-    requires { ⌜ (length (now row) ≡ 16) × (at + lineMost ≤ length (now out)) ⌝ }
-    ensures { λ r. ⌜ Laid (now (out .entry)) at (recordLine order (now (row .entry))) (now (out .exit)) r ⌝ }
+fn put_record(out: &mut [u8], at: usize, order: u32, bytes: &[u8]) -> usize
+    requires { ⌜ (length (now bytes) ≡ 16) × (at + lineMost ≤ length (now out)) ⌝ }
+    ensures { λ r. ⌜ Laid (now (out .entry)) at (recordLine order (now (bytes .entry))) (now (out .exit)) r ⌝ }
     ensures { λ r. ⌜ r ≤ at + lineMost ⌝ }
 {
-    let ret = ret_of(row[2], number4(row, 4));
+    let ret = ret_of(bytes[2], number4(bytes, 4));
     let numbered = put_named(out, at, b"", order);
-    let thread = put_named(out, numbered, b" ", byte(row, 0));
-    let request = put_named(out, thread, b" ", byte(row, 1));
+    let thread = put_named(out, numbered, b" ", byte(bytes, 0));
+    let request = put_named(out, thread, b" ", byte(bytes, 1));
     let mark = put_mark(out, request, ret);
     let value = put_value(out, mark, ret);
-    put_serving(out, value, row)
+    put_serving(out, value, bytes)
 }
 
 // The lines of so many records, of at most 256.
-fn put_records(out: &mut [u8], at: usize, rows: &[u8], count: usize) -> usize
-    requires { ⌜ (16 * count ≤ length (now rows)) × (at + lineMost * count ≤ length (now out)) × (count ≤ 256) ⌝ }
-    ensures { λ r. ⌜ Laid (now (out .entry)) at (recordLines 0 (rowsIn count (now (rows .entry)))) (now (out .exit)) r ⌝ }
+fn put_records(out: &mut [u8], at: usize, records: &[u8], count: usize) -> usize
+    requires { ⌜ (16 * count ≤ length (now records)) × (at + lineMost * count ≤ length (now out)) × (count ≤ 256) ⌝ }
+    ensures { λ r. ⌜ Laid (now (out .entry)) at (recordLines 0 (recordsLaid count (now (records .entry)))) (now (out .exit)) r ⌝ }
     ensures { λ r. ⌜ r ≤ at + lineMost * count ⌝ }
 {
     let mut next = at;
@@ -207,7 +208,7 @@ fn put_records(out: &mut [u8], at: usize, rows: &[u8], count: usize) -> usize
     while i < count {
         let from = 16 * i;
         let end = from + 16;
-        next = put_record(out, next, i as u32, &rows[from..end]);
+        next = put_record(out, next, i as u32, &records[from..end]);
         i += 1;
     }
     next
@@ -241,13 +242,13 @@ fn put_head(out: &mut [u8], at: usize, head: Head, counts: Counts) -> usize
 }
 
 // The listing of a run, from the buffer's first byte on: its length.
-fn put_run(out: &mut [u8], head: Head, counts: Counts, rows: &[u8], count: usize) -> usize
-    requires { ⌜ (16 * count ≤ length (now rows)) × (headMost + lineMost * count ≤ length (now out)) × (count ≤ 256) ⌝ }
-    ensures { λ r. ⌜ Laid (now (out .entry)) 0 (headLine head counts ++ recordLines 0 (rowsIn count (now (rows .entry)))) (now (out .exit)) r ⌝ }
+fn put_run(out: &mut [u8], head: Head, counts: Counts, records: &[u8], count: usize) -> usize
+    requires { ⌜ (16 * count ≤ length (now records)) × (headMost + lineMost * count ≤ length (now out)) × (count ≤ 256) ⌝ }
+    ensures { λ r. ⌜ Laid (now (out .entry)) 0 (headLine head counts ++ recordLines 0 (recordsLaid count (now (records .entry)))) (now (out .exit)) r ⌝ }
     ensures { λ r. ⌜ r ≤ headMost + lineMost * count ⌝ }
 {
     let next = put_head(out, 0, head, counts);
-    put_records(out, next, rows, count)
+    put_records(out, next, records, count)
 }
 
 // The listing of a refusal, from the buffer's first byte on: its length.
@@ -275,13 +276,13 @@ fn give(words: &[u8], out: &mut [u8]) -> Listed
 }
 
 // Lists a run of at most 256 records.
-fn list_run(head: Head, counts: Counts, rows: &[u8], count: usize, out: &mut [u8]) -> Listed
-    requires { ⌜ (16 * count ≤ length (now rows)) × (count ≤ 256) ⌝ }
-    ensures { λ r. ⌜ Gives (headLine head counts ++ recordLines 0 (rowsIn count (now (rows .entry)))) (now (out .entry)) (now (out .exit)) r ⌝ }
+fn list_run(head: Head, counts: Counts, records: &[u8], count: usize, out: &mut [u8]) -> Listed
+    requires { ⌜ (16 * count ≤ length (now records)) × (count ≤ 256) ⌝ }
+    ensures { λ r. ⌜ Gives (headLine head counts ++ recordLines 0 (recordsLaid count (now (records .entry)))) (now (out .entry)) (now (out .exit)) r ⌝ }
     ensures { λ r. ⌜ (enoughBytes ≤ length (now (out .entry)) → r .refusal ≡ 0) ⌝ }
 {
     let mut words = [0u8; ENOUGH];
-    let length = put_run(&mut words, head, counts, rows, count);
+    let length = put_run(&mut words, head, counts, records, count);
     give(&words[..length], out)
 }
 
@@ -299,15 +300,15 @@ fn list_refusal(number: u8, out: &mut [u8]) -> Listed
 pub fn list(file: &[u8], out: &mut [u8]) -> Listed
     ensures { λ r. ⌜ Lists (now (file .entry)) (now (out .entry)) (now (out .exit)) r ⌝ }
 {
-    let mut rows = [0u8; 4096];
-    let ran = bench::run(file, &mut rows);
-    let counts = ran.counts;
+    let mut records = [0u8; 4096];
+    let answer = bench::run(file, &mut records);
+    let counts = answer.counts;
     match bench_file::judge(file) {
         Judged::Accepted {
             head,
             requests: _,
             entries: _,
-        } => list_run(head, counts, &rows, counts.records as usize, out),
+        } => list_run(head, counts, &records, counts.records as usize, out),
         Judged::Refused(number) => list_refusal(number, out),
     }
 }

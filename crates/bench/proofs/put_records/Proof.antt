@@ -4,8 +4,9 @@ use native.Mathlib.Omega.{arith}
 use mathlib.Core.Path.{_≡_, ap, _∙_}
 use lib.ListN.{length, getD, length-take, length-drop}
 use borrow.Author.Needs.{needs}
+use Rattle.machine.specs.Sizes.{mostCalls}
 use Rattle.kept.specs.Kept.{callAt, unkept}
-use Rattle.claims.proofs.Places.{getD-any}
+use Rattle.history.proofs.Places.{getD-any}
 use Rattle.bench.specs.Records.{keptRecord, recordAt}
 use Rattle.bench.proofs.Putting.{sixteen, RecordsLaid, lays-none, lays, lays-all}
 use Rattle.bench.proofs.put_records.Statement.{statement}
@@ -24,17 +25,17 @@ abbrev given : tie.In-loop Inv-loop μ-loop → tie.Start Inv-loop μ-loop
 given c = c .before .before .before
 
 -- the arrays have 256 places
-kept-long : (c : tie.Start Inv-loop μ-loop) → length (c .args .t3) ≡ 256
+kept-long : (c : tie.Start Inv-loop μ-loop) → length (c .args .t3) ≡ mostCalls
 kept-long c = search needs
 
 order-there : (c : tie.Start Inv-loop μ-loop) → c .args .count ≤ length (c .args .t4)
-order-there c = let n : length (c .args .t4) ≡ 256 = search needs in omega (arith, c .pre .0)
+order-there c = let n : length (c .args .t4) ≡ mostCalls = search needs in omega (arith, c .pre .0)
 
 -- the place of the call at hand is one of them
 abbrev placeIn : tie.In-loop Inv-loop μ-loop → ℕ
 placeIn c = getD (given c .args .t4) (c .before .loop .i) 0
 
-place-below : (c : tie.In-loop Inv-loop μ-loop) → placeIn c < 256
+place-below : (c : tie.In-loop Inv-loop μ-loop) → placeIn c < mostCalls
 place-below c = given c .pre .1 _ (c .loop-test .taken)
 
 mul-place : tie.Need-mul-place Inv-loop μ-loop

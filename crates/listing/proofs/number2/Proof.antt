@@ -21,7 +21,7 @@ add-result : tie.Need-add-result
 add-result c = search needs
 
 returns : tie.Need-returns
-returns c = let start = c .before .before .before in (omega (arith, two-at (start .args .row .now) (start .args .i) (start .pre)), omega arith)
+returns c = let start = c .before .before .before in (omega (arith, two-at (start .args .bytes .now) (start .args .i) (start .pre)), omega arith)
 
 pub number2-spec : {M : Type 1} → statement M
 number2-spec =

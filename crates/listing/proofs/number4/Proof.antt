@@ -21,7 +21,7 @@ add-result : tie.Need-add-result
 add-result c = search needs
 
 returns : tie.Need-returns
-returns c = let start = c .before .before .before in omega (arith, four-at (start .args .row .now) (start .args .i) (start .pre))
+returns c = let start = c .before .before .before in omega (arith, four-at (start .args .bytes .now) (start .args .i) (start .pre))
 
 pub number4-spec : {M : Type 1} → statement M
 number4-spec =

@@ -70,8 +70,8 @@ returns c =
     let thread = request .before .before .before .before .before .before in
     let order = thread .before .before .before .before .before .before in
     let ret = order .before .before .before in
-    let row = given order .args .row .now in
-    let response = ret .ret-of .ensures ∙ ap (retOf (byteAt row 2)) (ret .before .number4 .ensures) in (
+    let bytes = given order .args .bytes .now in
+    let response = ret .ret-of .ensures ∙ ap (retOf (byteAt bytes 2)) (ret .before .number4 .ensures) in (
       order .put-named .ensures .0
           & told (λ x. text " " ++ decimal x) (thread .before .byte .ensures .0) (thread .put-named2 .ensures .0)
           & told (λ x. text " " ++ decimal x) (request .before .byte2 .ensures .0) (request .put-named3 .ensures .0)

@@ -4,23 +4,24 @@ use native.Mathlib.Omega.{arith}
 use mathlib.Core.Path.{_≡_}
 use borrow.Author.Needs.{needs}
 use Rattle.listing.specs.Listing.{recordLines}
-use Rattle.listing.specs.Laid.{Laid, rowsIn, lineMost}
+use Rattle.bench.specs.Run.{recordsLaid}
+use Rattle.listing.specs.Laid.{Laid, lineMost}
 use Rattle.listing.proofs.Laid.{nothing-laid, laid-length, told}
-use Rattle.listing.proofs.Rows.{row-length, line-laid}
+use Rattle.listing.proofs.Lines.{record-length, line-laid}
 use Rattle.listing.proofs.put_records.Statement.{statement}
 use Rattle.listing.proofs.put_records.Tie as tie
 
 abbrev Inv-loop : tie.InvT-loop
-Inv-loop out₀ at rows count next₀ i₀ out next i = (i ≤ count) × Laid out₀ at (recordLines 0 (rowsIn i rows)) out next × (next ≤ at + lineMost * i)
+Inv-loop out₀ at records count next₀ i₀ out next i = (i ≤ count) × Laid out₀ at (recordLines 0 (recordsLaid i records)) out next × (next ≤ at + lineMost * i)
 
 abbrev μ-loop : tie.MeasureT-loop
-μ-loop out₀ at rows count next₀ i₀ out next i = count - i
+μ-loop out₀ at records count next₀ i₀ out next i = count - i
 
 abbrev given : tie.At-loop Inv-loop μ-loop → tie.Start Inv-loop μ-loop
 given c = c .before .before .before
 
 loop-holds : tie.Need-loop-holds Inv-loop μ-loop
-unfolding recordLines rowsIn
+unfolding recordLines recordsLaid
 loop-holds c = (omega arith, nothing-laid _ _ (omega (arith, c .before .before .pre .1)), omega arith)
 
 mul-from : tie.Need-mul-from Inv-loop μ-loop
@@ -44,7 +45,7 @@ part-put-record-end c = search needs
 put-record-requires : tie.Need-put-record-requires Inv-loop μ-loop
 put-record-requires c κs =
     let at = c .before .before .before in
-    (row-length (given at .args .rows .now) (at .loop .i) (omega (arith, c .before .before .loop-test .taken, given at .pre)), omega (arith, c .before .before .loop-test .taken, at .loop .inv, laid-length (at .loop .inv .1), given at .pre))
+    (record-length (given at .args .records .now) (at .loop .i) (omega (arith, c .before .before .loop-test .taken, given at .pre)), omega (arith, c .before .before .loop-test .taken, at .loop .inv, laid-length (at .loop .inv .1), given at .pre))
 
 add-i : tie.Need-add-i Inv-loop μ-loop
 add-i c = search needs
@@ -65,7 +66,7 @@ returns : tie.Need-returns Inv-loop μ-loop
 returns c =
     let l = c .before .loop in
     let all : l .i ≡ given (c .before) .args .count = omega (arith, l .inv .0, c .loop-test .left) in
-    (told (λ count. recordLines 0 (rowsIn count (given (c .before) .args .rows .now))) all (l .inv .1), omega (arith, l .inv, all))
+    (told (λ count. recordLines 0 (recordsLaid count (given (c .before) .args .records .now))) all (l .inv .1), omega (arith, l .inv, all))
 
 pub put-records-spec : {M : Type 1} → statement M
 put-records-spec =
