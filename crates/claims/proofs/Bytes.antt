@@ -1,19 +1,18 @@
 -- A record is 16 bytes. Assumes what each law says of thread, request and serving thread.
-use Prim.Native.Nat.{ℕ, _<_}
+use Prim.Native.Nat.{_<_}
 use native.Mathlib.Omega.{arith}
-use mathlib.Core.Bool.{Bool, true, false, cond}
-use mathlib.Core.List.{List, [], _∷_}
+use mathlib.Core.Bool.{Bool, true, false}
+use mathlib.Core.List.{List}
 use Rattle.object.specs.declared.Answer.{Answer}
 use Rattle.object.specs.declared.Answer.the-variants.{Done, Value, Empty, Full}
 use Rattle.object.specs.Paper.{answerMark}
-use Rattle.object.specs.Each.{Each}
 use Rattle.bench_file.specs.Bytes.{lowFirst, Byte}
 use Rattle.machine.specs.declared.RetVal.{RetVal}
 use Rattle.machine.specs.declared.RetVal.the-variants.{NoAnswer, Answered}
 use Rattle.step.specs.Entry.{oneIf}
 use Rattle.history.specs.Entries.{Entry}
 use Rattle.claims.specs.Claims.{SixteenBytes}
-use Rattle.history.specs.Terms.{Call, same, Serving, servings, returned, shown, shownOf, retMark, recordOf}
+use Rattle.history.specs.Terms.{Call, servings, returned, shownOf, retMark, recordOf}
 
 -- an answer's mark is not that of none
 pub mark-below : (a : Answer) → answerMark a < 255

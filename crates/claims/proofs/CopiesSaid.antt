@@ -2,7 +2,7 @@
 use Prim.Native.Nat.{ℕ, _≤_, _<_}
 use native.Mathlib.Omega.{arith}
 use mathlib.Core.Path.{_≡_, sym, ap, subst, _∙_}
-use lib.ListN.{length, replicate}
+use lib.ListN.{replicate}
 use mathlib.Core.List.{List, [], _∷_}
 use Rattle.object.specs.Each.{Each}
 use Rattle.machine.specs.declared.ThreadId.{ThreadId}

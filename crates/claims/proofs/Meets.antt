@@ -1,10 +1,10 @@
 -- Every line of CC-Synch moves as a history asks. Assumes Control, and that the entry is the line's.
-use Prim.Native.Nat.{ℕ, suc, _+_, _≤_, _<_}
+use Prim.Native.Nat.{ℕ, _+_, _≤_, _<_}
 use native.Mathlib.Omega.{arith}
 use mathlib.Core.Path.{_≡_, refl, sym, _∙_, ap}
 use mathlib.Core.Bool.{Bool, true, false, cond, not, _&&_, _||_}
 use lib.Dec.{eqb, ltb}
-use borrow.Author.Tests.{eq-eqb, ne-eqb, le-leb, lt-leb}
+use borrow.Author.Tests.{ne-eqb, le-leb, lt-leb}
 use Rattle.object.specs.declared.Request.{Request}
 use Rattle.object.specs.declared.Answer.{Answer}
 use Rattle.object.proofs.Choice.{by-equal, by-order}

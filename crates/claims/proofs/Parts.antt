@@ -1,7 +1,7 @@
 -- What the invariant of a file's run says of its entries: each part of the claim. Assumes `Going` and `Layers` of the state and its entries.
 use Prim.Native.Nat.{ℕ, _≤_, _<_, _^_}
 use native.Mathlib.Omega.{arith}
-use mathlib.Core.Path.{_≡_, refl, sym, ap, _∙_}
+use mathlib.Core.Path.{_≡_, sym, ap, _∙_}
 use mathlib.Core.List.{List, [], _∷_, map, map-map}
 use lib.ListN.{length, getD, take, drop, length-map}
 use lib.Seq.{getD-take}
@@ -33,7 +33,7 @@ use Rattle.history.proofs.Places.{map-at}
 use Rattle.history.proofs.Shown.{record-at, applied, shown-each, shown-at, shown-none}
 use Rattle.history.proofs.Sums.{one-each, cost-fits, tests-few, servings-few}
 use Rattle.history.proofs.Turns.{one-combiner}
-use Rattle.claims.specs.Claims.{SixteenBytes, ReturnedCall, Holds, Claimed, HasAnswer, plainAnswers, askedOf, askedBy}
+use Rattle.claims.specs.Claims.{SixteenBytes, ReturnedCall, Claimed, HasAnswer, plainAnswers, askedOf, askedBy}
 use Rattle.claims.proofs.Bytes.{mark-below, sixteen-bytes}
 use Rattle.claims.proofs.Layers.{Layers, Bounded, jobsOf}
 use Rattle.claims.proofs.Meets.{one-turn}

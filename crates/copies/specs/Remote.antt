@@ -3,8 +3,6 @@ use Prim.Native.Nat.{ℕ, _+_, _*_}
 use mathlib.Core.Bool.{Bool, true, false, cond}
 use mathlib.Core.List.{List, [], _∷_}
 use lib.ListN.{getD, set}
-use Rattle.machine.specs.declared.Field.{Field}
-use Rattle.machine.specs.declared.Field.the-variants.{Req, Ret, Wait, Completed, Next}
 use Rattle.machine.specs.declared.SharedAccess.{SharedAccess}
 use Rattle.machine.specs.declared.SharedAccess.the-variants.{NoAccess, Read, Write, Swap}
 use Rattle.machine.specs.Lines.{Location, fieldNumber, tail, part, Access, read, write, swap}

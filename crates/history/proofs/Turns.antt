@@ -1,7 +1,7 @@
 -- Turns, entry by entry: who combines, which turn is whose, and how many each has served. Assumes Moves and Turns before the entry.
 use Prim.Native.Nat.{ℕ, suc, _+_, _<_}
 use native.Mathlib.Omega.{arith}
-use mathlib.Core.Path.{_≡_, refl, sym, ap, _∙_}
+use mathlib.Core.Path.{_≡_, refl, sym, _∙_}
 use mathlib.Core.Bool.{Bool, true, false, cond, _&&_, _||_, false≢true, and-false}
 use mathlib.Core.List.{List, [], _∷_}
 use lib.Dec.{eqb}

@@ -145,6 +145,8 @@ pub record Told (row : Row) (does : Found → Effect) (f : Found) : Type 0 where
   pub sets : (g : Found) → does f .node ≡ rowWrites row (does (whereRead row f g) .node) (f .node)
   -- and so does the thread after it
   pub reads : (g : Found) → does (whereRead row f g) .thread ≡ does f .thread
+  -- and what the entry is
+  pub event : (g : Found) → entryIs row (whereRead row f g) ≡ entryIs row f
   -- Tail changes only by a Swap
   pub tail : does f .tail ≡ cond (swapsTail row) (does f .tail) (f .tail)
   -- and by whole nodes: what the row does not touch does not matter

@@ -8,7 +8,7 @@ use mathlib.Core.Bool.{Bool, true, false, cond, not, _&&_, and-eq-true-iff}
 use mathlib.Core.List.{List, [], _∷_}
 use lib.ListN.{getD, take, drop, set, List·getD-map}
 use lib.Seq.{getD-drop, drop-set-lt, map-set-same}
-use lib.Dec.{leb, eqb}
+use lib.Dec.{leb}
 use borrow.Author.Tests.{leb-false}
 use Rattle.object.specs.Plain.{Plain}
 use Rattle.object.specs.Each.{Each}
