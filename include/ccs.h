@@ -18,7 +18,7 @@
  *                  a queue and a stack know put and take, a counter knows add
  *   then           16-bit length of the schedule, 0 to 32,768, and a thread's number, below n, for each entry; then the end
  *
- * The record of a call, 16 bytes:
+ * The record of a call, CCS_RECORD_LENGTH bytes:
  *   byte 0         thread
  *   byte 1         request within the thread, from 0
  *   byte 2         0 done, 1 value, 2 empty, 3 full, 255 none yet
@@ -60,7 +60,7 @@ enum {
 /* The bytes of one record, how many hold the records of every file, and how many the listing of every file. */
 enum {
     CCS_RECORD_LENGTH = 16,
-    CCS_ENOUGH_FOR_RECORDS = 4096,
+    CCS_ENOUGH_FOR_RECORDS = 256 * CCS_RECORD_LENGTH,
     CCS_ENOUGH_FOR_LISTING = 23677
 };
 
@@ -88,7 +88,8 @@ enum {
 /* Judges file as a bench file: 0, or 1 to 12. The numbers are those of the file, or all 0 if it is refused. */
 uint8_t ccs_judge(const uint8_t *file, size_t file_length, size_t numbers[CCS_JUDGED_NUMBERS]);
 
-/* Runs file as a bench file: 0, or 1 to 12 for the file, or 13 where out has fewer than 16 bytes for each request in the file, performed or not.
+/* Runs file as a bench file: 0, or 1 to 12 for the file, or 13 where out has fewer than CCS_RECORD_LENGTH bytes for each request in the file, performed or
+ * not.
  * 0: out has one record for each Swap done, in Swap order, from its first byte on, and every later byte is as it was; the counts are those of the
  * run. A refusal: out is as it was, and all counts are 0. */
 uint8_t ccs_run(const uint8_t *file, size_t file_length, uint8_t *out, size_t out_length, uint32_t counts[CCS_RUN_COUNTS]);

@@ -53,7 +53,7 @@ mod border {
 pub const RECORD_LENGTH: usize = 16;
 
 /// So many bytes hold the records of every file.
-pub const ENOUGH_FOR_RECORDS: usize = 4096;
+pub const ENOUGH_FOR_RECORDS: usize = 256 * RECORD_LENGTH;
 
 /// So many bytes hold the listing of every file.
 pub const ENOUGH_FOR_LISTING: usize = 23_677;

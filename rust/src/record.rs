@@ -1,4 +1,4 @@
-//! The record of a call, read from its 16 bytes (`include/ccs.h`).
+//! The record of a call, read from its bytes (`include/ccs.h`).
 use crate::{Counts, RECORD_LENGTH};
 
 /// The object's answer to a request.
@@ -41,14 +41,14 @@ pub struct Record {
 }
 
 impl Record {
-    /// The call that 16 bytes are the record of; none if their fields contradict each other, which those of a run never do.
+    /// The call that bytes are the record of; none if their fields contradict each other, which those of a run never do.
     ///
     /// ```
     /// let waiting = [0, 1, 255, 255, 0, 0, 0, 0, 4, 0, 0, 0, 0, 255, 255, 0];
     /// let record = ccs::Record::read(&waiting).unwrap();
     /// assert_eq!((record.thread, record.request, record.remote), (0, 1, 4));
     /// assert_eq!(record.serving, None);
-    /// assert_eq!(ccs::Record::read(&[255; 16]), None);
+    /// assert_eq!(ccs::Record::read(&[255; ccs::RECORD_LENGTH]), None);
     /// ```
     pub fn read(bytes: &[u8; RECORD_LENGTH]) -> Option<Record> {
         let [thread, request, mark, server, v0, v1, v2, v3, r0, r1, r2, r3, returned, t0, t1, 0] =

@@ -110,11 +110,13 @@ fn judged(file: &[u8]) -> Result<(), u8> {
 fn read_and_laid(bytes: &[u8]) -> Vec<u8> {
     bytes
         .chunks_exact(RECORD_LENGTH)
-        .flat_map(|bytes| laid(&Record::read(bytes.try_into().expect("16")).expect("a record")))
+        .flat_map(|bytes| {
+            laid(&Record::read(bytes.try_into().expect("so long")).expect("a record"))
+        })
         .collect()
 }
 
-/// The 16 bytes of a record, by document 01.
+/// The bytes of a record, by document 01.
 fn laid(record: &Record) -> [u8; RECORD_LENGTH] {
     let (mark, server, value, turn) = match record.serving {
         None => (255, 255, 0, 65_535),

@@ -70,7 +70,7 @@ impl Walk {
         (
             counts,
             records
-                .map(|bytes| bytes.try_into().expect("16 bytes"))
+                .map(|bytes| bytes.try_into().expect("so long"))
                 .collect(),
         )
     }

@@ -9,10 +9,10 @@ use Rattle.bench_file.specs.Examples.{sixtyFour}
 use Rattle.claims.specs.Entries.{entriesFrom}
 use Rattle.claims.specs.Marked.{Marked, markedRuns}
 use Rattle.claims.specs.Result.{refusedResult}
-use Rattle.bench.specs.Run.{resultIn}
+use Rattle.bench.specs.Run.{resultIn, enoughForRecords}
 
--- with 4,096 bytes lent, which are enough for any file
-pub marked-runs : map (λ (m : Marked). resultIn 4096 (judgeOf (m .file))) markedRuns ≡ map (λ (m : Marked). m .result) markedRuns
+-- with bytes enough for any file lent
+pub marked-runs : map (λ (m : Marked). resultIn enoughForRecords (judgeOf (m .file))) markedRuns ≡ map (λ (m : Marked). m .result) markedRuns
 unfolding judgeOf fileReader headReader startReader limitsReader rowReader requestReader scheduleReader ruledByte byte several field littleEndian end lowFirst eachBytes bytesOf sumOf sixtyFour entriesFrom markedRuns
 marked-runs = refl
 

@@ -1,4 +1,4 @@
--- Records of 16 bytes that follow each other in a buffer are read back from it, each from its place. Assumes that they have 16 bytes.
+-- Records that follow each other in a buffer are read back from it, each from its place. Assumes that each has a record's length.
 use Prim.Native.Nat.{ℕ, zero, suc, _+_, _*_, _<_}
 use native.Mathlib.Omega.{arith}
 use mathlib.Core.Path.{_≡_, refl, sym, ap, _∙_}
@@ -7,30 +7,31 @@ use lib.ListN.{length, getD, take, drop}
 use lib.Seq.{take-at, drop-at, drop-drop}
 use Rattle.object.specs.Each.{Each}
 use Rattle.bench_file.specs.Bytes.{eachBytes}
+use Rattle.history.specs.Terms.{recordLength}
 use Rattle.bench.specs.Run.{recordsLaid}
 
-pub laid-back : (records : List (List ℕ)) (rest : List ℕ) → Each (λ bytes. length bytes ≡ 16) records
+pub laid-back : (records : List (List ℕ)) (rest : List ℕ) → Each (λ bytes. length bytes ≡ recordLength) records
     → recordsLaid (length records) (eachBytes (λ bytes. bytes) records ++ rest) ≡ records
 unfolding recordsLaid eachBytes
 laid-back [] rest p = refl
 laid-back (bytes ∷ records) rest p =
     rw (
       append-assoc bytes (eachBytes (λ bytes. bytes) records) rest,
-      take-at bytes (eachBytes (λ bytes. bytes) records ++ rest) 16 (p .0),
-      drop-at bytes (eachBytes (λ bytes. bytes) records ++ rest) 16 (p .0),
+      take-at bytes (eachBytes (λ bytes. bytes) records ++ rest) recordLength (p .0),
+      drop-at bytes (eachBytes (λ bytes. bytes) records ++ rest) recordLength (p .0),
       laid-back records rest (p .1),
     )
 
--- record i stands from byte 16 · i on
-pub laid-at : (count i : ℕ) (bytes : List ℕ) → i < count → getD (recordsLaid count bytes) i [] ≡ take 16 (drop (16 * i) bytes)
+-- record i stands behind the i before it
+pub laid-at : (count i : ℕ) (bytes : List ℕ) → i < count → getD (recordsLaid count bytes) i [] ≡ take recordLength (drop (recordLength * i) bytes)
 unfolding recordsLaid
 laid-at zero i bytes b = absurd (omega arith)
 laid-at (suc count) zero bytes b = refl
 laid-at (suc count) (suc i) bytes b =
-    let e : 16 + 16 * i ≡ 16 * suc i = omega arith in
-    laid-at count i (drop 16 bytes) (omega arith) ∙ ap (take 16) (drop-drop (16 * i) 16 bytes ∙ ap (λ (k : ℕ). drop k bytes) e)
+    let e : recordLength + recordLength * i ≡ recordLength * suc i = omega arith in
+    laid-at count i (drop recordLength bytes) (omega arith) ∙ ap (take recordLength) (drop-drop (recordLength * i) recordLength bytes ∙ ap (λ (k : ℕ). drop k bytes) e)
 
-pub in-place : (records : List (List ℕ)) (rest : List ℕ) → Each (λ bytes. length bytes ≡ 16) records → (i : ℕ) → i < length records
-    → take 16 (drop (16 * i) (eachBytes (λ bytes. bytes) records ++ rest)) ≡ getD records i []
+pub in-place : (records : List (List ℕ)) (rest : List ℕ) → Each (λ bytes. length bytes ≡ recordLength) records → (i : ℕ) → i < length records
+    → take recordLength (drop (recordLength * i) (eachBytes (λ bytes. bytes) records ++ rest)) ≡ getD records i []
 in-place records rest sizes i b =
     sym (laid-at (length records) i (eachBytes (λ bytes. bytes) records ++ rest) b) ∙ ap (λ (l : List (List ℕ)). getD l i []) (laid-back records rest sizes)

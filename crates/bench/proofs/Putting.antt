@@ -11,13 +11,13 @@ use Rattle.bench_file.specs.Bytes.{lowFirst, eachBytes}
 use Rattle.bench_file.proofs.Each.{eachBytes-append, eachBytes-length}
 use Rattle.bench_writer.specs.Writer.{pasted}
 use Rattle.bench_writer.proofs.Pasted.{length-pasted, pasted-part, pasted-behind}
-use Rattle.history.specs.Terms.{Call}
+use Rattle.history.specs.Terms.{Call, recordLength}
 use Rattle.kept.specs.declared.Kept.{Kept}
 use Rattle.kept.specs.Kept.{callAt, unkept}
 use Rattle.bench.specs.Records.{keptRecord, recordAt, recordsIn}
 use Rattle.bench.specs.Run.{written}
 
-record-length : (c : Call) (k : Kept) → length (keptRecord c k) ≡ 16
+record-length : (c : Call) (k : Kept) → length (keptRecord c k) ≡ recordLength
 unfolding lowFirst
 record-length c k = refl
 
@@ -27,8 +27,8 @@ each-mapped bytes [] = refl
 each-mapped bytes (a ∷ l) = ap (λ (rest : List ℕ). bytes a ++ rest) (each-mapped bytes l)
 
 module _ (kept : List Kept) where
-  pub sixteen : (place : ℕ) → length (recordAt kept place) ≡ 16
-  sixteen place = record-length (callAt place) (getD kept place unkept)
+  pub record-long : (place : ℕ) → length (recordAt kept place) ≡ recordLength
+  record-long place = record-length (callAt place) (getD kept place unkept)
 
   one-record : (place : ℕ) → eachBytes (recordAt kept) (place ∷ []) ≡ recordAt kept place
   unfolding eachBytes
@@ -49,9 +49,9 @@ module _ (kept : List Kept) where
     unfolding eachBytes
     lays-none = record { below = omega arith; size = refl; is = refl }
 
-    module _ (there : count ≤ length order) (room : 16 * count ≤ length old) where
-      long : (i : ℕ) → i ≤ count → length (records i) ≡ 16 * i
-      long i b = eachBytes-length (recordAt kept) 16 sixteen (take i order) ∙ ap (λ (k : ℕ). 16 * k) (length-take-le i order (omega arith))
+    module _ (there : count ≤ length order) (room : recordLength * count ≤ length old) where
+      long : (i : ℕ) → i ≤ count → length (records i) ≡ recordLength * i
+      long i b = eachBytes-length (recordAt kept) recordLength record-long (take i order) ∙ ap (λ (k : ℕ). recordLength * k) (length-take-le i order (omega arith))
 
       one-more : (i : ℕ) → i < count → records i ++ recordAt kept (getD order i 0) ≡ records (i + 1)
       one-more i b =
@@ -60,12 +60,12 @@ module _ (kept : List Kept) where
 
       -- one record more, copied into the part of the buffer behind those laid
       pub lays : (out bytes part : List ℕ) (i : ℕ) → RecordsLaid out i → i < count → bytes ≡ recordAt kept (getD order i 0)
-          → part ≡ take (length bytes) bytes ++ drop (length bytes) (take (length out - 16 * i) (drop (16 * i) out))
-          → RecordsLaid (take (16 * i) out ++ (part ++ drop (length out - 16 * i) (drop (16 * i) out))) (i + 1)
+          → part ≡ take (length bytes) bytes ++ drop (length bytes) (take (length out - recordLength * i) (drop (recordLength * i) out))
+          → RecordsLaid (take (recordLength * i) out ++ (part ++ drop (length out - recordLength * i) (drop (recordLength * i) out))) (i + 1)
       lays out bytes part i before b here copied =
-          let laid = pasted-part out (16 * i) bytes part (omega (arith, before .size)) copied in
+          let laid = pasted-part out (recordLength * i) bytes part (omega (arith, before .size)) copied in
           let more : records i ++ bytes ≡ records (i + 1) = rw here (one-more i b) in
-          let is = pasted-behind old (records i) bytes (16 * i) (before .is) (omega (arith, long i (omega arith))) laid ∙ ap (pasted old 0) more in
+          let is = pasted-behind old (records i) bytes (recordLength * i) (before .is) (omega (arith, long i (omega arith))) laid ∙ ap (pasted old 0) more in
           record { below = omega arith; size = ap length is ∙ length-pasted old 0 (records (i + 1)) (omega (arith, long (i + 1) (omega arith))); is = is }
 
       -- after all of them the buffer has the records

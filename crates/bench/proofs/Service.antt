@@ -18,7 +18,7 @@ use Rattle.bench_file.proofs.RoundTrip.{accepted-in-range}
 use Rattle.machine.specs.declared.Event.the-variants.{Swaps}
 use Rattle.machine.specs.Sizes.{mostCalls}
 use Rattle.history.specs.Entries.{Entry, howMany}
-use Rattle.history.specs.Terms.{Call, noCall, callOf, swapOrder, recordOf, recordsOf}
+use Rattle.history.specs.Terms.{Call, noCall, callOf, swapOrder, recordLength, recordOf, recordsOf}
 use Rattle.history.proofs.Places.{map-at}
 use Rattle.history.proofs.Sums.{one-each}
 use Rattle.claims.specs.Entries.{historyOf}
@@ -89,14 +89,14 @@ pub record Shows (lent : ℕ) (p : Played) (result : Result) : Type 0 where
   pub answer : answerBy p ≡ answerOf result
   pub records : recordsBy p ≡ result .records
   pub few : p .counts .records ≤ mostCalls
-  pub room : 16 * p .counts .records ≤ lent
+  pub room : recordLength * p .counts .records ≤ lent
   pub places : (i : ℕ) → i < p .counts .records → getD (p .order) i 0 < mostCalls
 
 module _ (lent : ℕ) where
   refused-shows : (number : ℕ) → Shows lent (unplayed number) (refusedResult number)
   refused-shows number = record { answer = refl; records = refl; few = omega arith; room = omega arith; places = λ i b. absurd (omega arith) }
 
-  run-shows : (f : Fields) → InRange f → 16 * sumOf length (f .rows) ≤ lent → Shows lent (playedOf f) (resultAs (accepted f))
+  run-shows : (f : Fields) → InRange f → recordLength * sumOf length (f .rows) ≤ lent → Shows lent (playedOf f) (resultAs (accepted f))
   run-shows f fits room = record {
     answer = refl;
     records = records-there f fits;
@@ -107,16 +107,16 @@ module _ (lent : ℕ) where
 
   shows : (j : Judgement) → ((f : Fields) → j ≡ accepted f → InRange f) → Shows lent (playedIn lent j) (resultIn lent j)
   shows (refusedBy number) fits = refused-shows number
-  shows (accepted f) fits = by-test (ltb lent (16 * sumOf length (f .rows))) (ltb-false _ _)
+  shows (accepted f) fits = by-test (ltb lent (recordLength * sumOf length (f .rows))) (ltb-false _ _)
     where
-      by-test : (short : Bool) → (short ≡ false → 16 * sumOf length (f .rows) ≤ lent)
+      by-test : (short : Bool) → (short ≡ false → recordLength * sumOf length (f .rows) ≤ lent)
           → Shows lent (cond short (unplayed 13) (playedOf f)) (cond short (refusedResult 13) (resultAs (accepted f)))
       by-test true enough = refused-shows 13
       by-test false enough = run-shows f (fits f refl) (enough refl)
 
 -- a result that is not refused has the records of the run
 records-run : (lent : ℕ) (f : Fields) → resultIn lent (accepted f) .refusal ≡ 0 → resultIn lent (accepted f) .records ≡ recordsOf (historyOf f)
-records-run lent f = by-test (ltb lent (16 * requestsOf f))
+records-run lent f = by-test (ltb lent (recordLength * requestsOf f))
   where
     by-test : (short : Bool) → cond short (refusedResult 13) (resultAs (accepted f)) .refusal ≡ 0
         → cond short (refusedResult 13) (resultAs (accepted f)) .records ≡ recordsOf (historyOf f)
@@ -141,6 +141,6 @@ module _ (bytes old : List ℕ) (p : Played) (each : Each Byte bytes) (is : p �
         let here : resultIn (length old) (judgeOf bytes) .records ≡ recordsOf (historyOf f) =
         ap (λ (j : Judgement). resultIn (length old) j .records) e ∙ records-run (length old) f not-refused in
         let laid-so : new ≡ written old (recordsOf (historyOf f)) = laid ∙ ap (written old) (played-shows .records ∙ here) in
-        ap (λ (l : List ℕ). take 16 (drop (16 * i) l)) laid-so
+        ap (λ (l : List ℕ). take recordLength (drop (recordLength * i) l)) laid-so
         ∙ in-place (recordsOf (historyOf f)) _ (each-map (λ (bytes : List ℕ) size. size .0) (recordsOf (historyOf f)) (claim .bytes)) i (rw (claim .records) b);
   }

@@ -6,7 +6,7 @@ use lib.ListN.{length, getD, take, drop}
 use Rattle.bench_file.specs.Layout.{Fields, accepted, judgeOf}
 use Rattle.machine.specs.declared.Event.the-variants.{Swaps}
 use Rattle.history.specs.Entries.{howMany}
-use Rattle.history.specs.Terms.{recordsOf}
+use Rattle.history.specs.Terms.{recordLength, recordsOf}
 use Rattle.claims.specs.Entries.{historyOf}
 use Rattle.claims.specs.Claims.{Claimed, Demand3Of}
 use Rattle.claims.specs.Result.{Result}
@@ -29,4 +29,4 @@ pub record Runs (bytes old new : List ℕ) (r : RunAnswer) : Type 0 where
   pub whole : (f : Fields) → judgeOf bytes ≡ accepted f → Claimed f (historyOf f)
   -- where the run is not refused, record i of that claim is what stands in its place in the buffer
   pub in-place : (f : Fields) → judgeOf bytes ≡ accepted f → r .refusal ≡ 0 → (i : ℕ) → i < howMany Swaps (historyOf f)
-      → take 16 (drop (16 * i) new) ≡ getD (recordsOf (historyOf f)) i []
+      → take recordLength (drop (recordLength * i) new) ≡ getD (recordsOf (historyOf f)) i []

@@ -7,6 +7,7 @@ ghost use lib.ListN.{length, getD};
 ghost use Rattle.machine.specs.Sizes.{mostCalls};
 ghost use Rattle.bench_file.specs.Bytes.{lowFirst};
 ghost use Rattle.step.specs.Entry.{oneIf};
+ghost use Rattle.history.specs.Terms.{recordLength};
 ghost use Rattle.kept.specs.Kept.{callAt};
 ghost use Rattle.bench.specs.Promise.{Runs};
 ghost use Rattle.bench.specs.Records.{keptRecord, recordsIn};
@@ -17,6 +18,9 @@ pub struct RunAnswer {
     pub refusal: u8,
     pub counts: Counts,
 }
+
+// So many bytes hold the records of every file.
+pub const ENOUGH_FOR_RECORDS: usize = kept::RECORD_LENGTH * machine::CALLS;
 
 // A number as four bytes, the lowest first.
 fn low_first(number: u32) -> [u8; 4]
@@ -38,7 +42,7 @@ fn returned_byte(returned: bool) -> u8
 }
 
 // The record of the call that has a place.
-fn record_bytes(place: u16, kept: Kept) -> [u8; 16]
+fn record_bytes(place: u16, kept: Kept) -> [u8; kept::RECORD_LENGTH]
     requires { ⌜ place < mostCalls ⌝ }
     ensures { λ r. ⌜ r ≡ keptRecord (callAt place) kept ⌝ }
 {
@@ -73,7 +77,7 @@ fn put_records(
     kept: [Kept; machine::CALLS],
     order: [u16; machine::CALLS],
 )
-    requires { ⌜ (count ≤ mostCalls) × (16 * count ≤ length (now out)) ⌝ }
+    requires { ⌜ (count ≤ mostCalls) × (recordLength * count ≤ length (now out)) ⌝ }
     requires { ⌜ ((i : ℕ) → i < count → getD order i 0 < mostCalls) ⌝ }
     ensures { λ _. ⌜ now (out .exit) ≡ written (now (out .entry)) (recordsIn count kept order) ⌝ }
 {
@@ -81,12 +85,12 @@ fn put_records(
     while i < count {
         let place = order[i];
         let record = record_bytes(place, kept[place as usize]);
-        bytes::copy(&record, &mut out[16 * i..]);
+        bytes::copy(&record, &mut out[kept::RECORD_LENGTH * i..]);
         i += 1;
     }
 }
 
-// Runs any bytes as a bench file; 13 where fewer than 16 bytes are lent for each request in the file. The records stand in Swap order from the
+// Runs any bytes as a bench file; 13 where fewer bytes are lent than a record for each request in the file takes. The records stand in Swap order from the
 // buffer's first byte on; a refusal has none.
 pub fn run(file: &[u8], out: &mut [u8]) -> RunAnswer
     ensures { λ r. ⌜ Runs (now (file .entry)) (now (out .entry)) (now (out .exit)) r ⌝ }

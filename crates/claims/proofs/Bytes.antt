@@ -1,4 +1,4 @@
--- A record is 16 bytes. Assumes what each law says of thread, request and serving thread.
+-- A record has its length, in bytes. Assumes what each law says of thread, request and serving thread.
 use Prim.Native.Nat.{_<_}
 use native.Mathlib.Omega.{arith}
 use mathlib.Core.Bool.{Bool, true, false}
@@ -11,7 +11,7 @@ use Rattle.machine.specs.declared.RetVal.{RetVal}
 use Rattle.machine.specs.declared.RetVal.the-variants.{NoAnswer, Answered}
 use Rattle.step.specs.Entry.{oneIf}
 use Rattle.history.specs.Entries.{Entry}
-use Rattle.claims.specs.Claims.{SixteenBytes}
+use Rattle.claims.specs.Claims.{RecordSized}
 use Rattle.history.specs.Terms.{Call, servings, returned, shownOf, retMark, recordOf}
 
 -- an answer's mark is not that of none
@@ -29,7 +29,7 @@ test-byte : (b : Bool) → Byte (oneIf b)
 test-byte true = omega arith
 test-byte false = omega arith
 
-pub sixteen-bytes : (history : List Entry) (c : Call) → Byte (c .thread .0) → Byte (c .request) → Byte (shownOf c (servings history) .server .0)
-    → SixteenBytes (recordOf history c)
+pub record-sized : (history : List Entry) (c : Call) → Byte (c .thread .0) → Byte (c .request) → Byte (shownOf c (servings history) .server .0)
+    → RecordSized (recordOf history c)
 unfolding lowFirst
-sixteen-bytes history c thread request server = omega (arith, ret-byte (shownOf c (servings history) .ret), test-byte (returned c history))
+record-sized history c thread request server = omega (arith, ret-byte (shownOf c (servings history) .ret), test-byte (returned c history))

@@ -33,8 +33,8 @@ use Rattle.history.proofs.Places.{map-at}
 use Rattle.history.proofs.Shown.{record-at, applied, shown-each, shown-at, shown-none}
 use Rattle.history.proofs.Sums.{one-each, cost-fits, tests-few, servings-few}
 use Rattle.history.proofs.Turns.{one-combiner}
-use Rattle.claims.specs.Claims.{SixteenBytes, ReturnedCall, Claimed, HasAnswer, plainAnswers, askedOf, askedBy}
-use Rattle.claims.proofs.Bytes.{mark-below, sixteen-bytes}
+use Rattle.claims.specs.Claims.{RecordSized, ReturnedCall, Claimed, HasAnswer, plainAnswers, askedOf, askedBy}
+use Rattle.claims.proofs.Bytes.{mark-below, record-sized}
 use Rattle.claims.proofs.Layers.{Layers, Bounded, jobsOf}
 use Rattle.claims.proofs.Meets.{one-turn}
 use Rattle.claims.proofs.Run.{Going}
@@ -115,16 +115,16 @@ module _ (f : Fields) (fits : InRange f) (s : State) (history : List Entry) (goi
   unfolding lowFirst
   cost i b = rw (record-at history i noCall (swap-there i b))
 
-  -- a record is 16 bytes
-  record-bytes : Each SixteenBytes (recordsOf history)
+  -- a record has its length, in bytes
+  record-bytes : Each RecordSized (recordsOf history)
   record-bytes =
-      each-there SixteenBytes [] (recordsOf history) (λ i b.
+      each-there RecordSized [] (recordsOf history) (λ i b.
       let b : i < length (swapOrder history) = omega (arith, length-map (swapOrder history) (recordOf history)) in
       let c = now .swaps .swapped i noCall (omega (arith, now .swaps .swaps)) in
       let fits = thread-fits s (swapAt history i .thread) (going .sound .shape) (going .sound .range) (c .thread) in
       let few = state-fits s (going .sound .range) .small in
       rw (record-at history i noCall b)
-      (sixteen-bytes history (swapAt history i) (omega (arith, c .thread)) (omega (arith, c .begun, fits .counted, fits .few))
+      (record-sized history (swapAt history i) (omega (arith, c .thread)) (omega (arith, c .begun, fits .counted, fits .few))
       (shown-each (λ (w : Shown). Byte (w .server .0)) (omega arith) (swapAt history i) (servings history)
       (each-map (λ (w : Serving) h. omega (arith, h)) (servings history) (now .servers)))))
 

@@ -25,7 +25,7 @@ use Rattle.step.specs.Entry.{zeroThread}
 use Rattle.step.specs.Steps.{stepsOf}
 use Rattle.history.specs.Entries.{Entry, happened, is, howMany}
 use Rattle.history.specs.Copies.{RemoteAsSaid}
-use Rattle.history.specs.Terms.{Call, begunBy, callOf, swapOrder, swapAt, noTurn, turnOfCall, combines, Serving, servings, servedIn, costOf, returned, combined, returns, Shown, shownOf, retMark, retValue, recordsOf, countsOf}
+use Rattle.history.specs.Terms.{Call, begunBy, callOf, swapOrder, swapAt, noTurn, turnOfCall, combines, Serving, servings, servedIn, costOf, returned, combined, returns, Shown, shownOf, retMark, retValue, recordLength, recordsOf, countsOf}
 use Rattle.claims.specs.Entries.{startOf, stateAfter, entriesOf, historyOf, cut}
 
 -- the file's requests of a thread, and its request of a call. Past these, where no call of a run is (`of-the-file`), it is put 0
@@ -49,8 +49,9 @@ outsideTurn e past = is Applies e && not (combines (e .thread) past)
 abbrev pub afterReturn : Entry → List Entry → Bool
 afterReturn e past = not (is Blank e) && returned (callOf e past) past
 
-abbrev pub SixteenBytes : List ℕ → Type 0
-SixteenBytes bytes = (length bytes ≡ 16) × Each Byte bytes
+-- as many bytes as a record has
+abbrev pub RecordSized : List ℕ → Type 0
+RecordSized bytes = (length bytes ≡ recordLength) × Each Byte bytes
 
 -- bytes 2 and 4 to 7 of a record are a mark and a value
 abbrev pub HasAnswer : List ℕ → ℕ → ℕ → Type 0
@@ -78,10 +79,10 @@ pub record Holds (f : Fields) (history : List Entry) (s a : ℕ) : Type 0 where
   pub in-swap-order : map (λ (w : Serving). w .call) (servings history) ≡ take a (swapOrder history)
   pub requests : map (λ (w : Serving). w .req) (servings history) ≡ map (λ (c : Call). Asked (askedBy f c)) (take a (swapOrder history))
   pub answers : map (λ (w : Serving). w .answer) (servings history) ≡ map Answered (take a (plainAnswers f history))
-  -- 2: there are s records of 16 bytes. Record i names the thread and request of Swap i and shows the plain object's answer i, whose value has 32 bits, or
+  -- 2: there are s records, of `recordLength` bytes. Record i names the thread and request of Swap i and shows the plain object's answer i, whose value has 32 bits, or
   -- none from a on
   pub records : length (recordsOf history) ≡ s
-  pub bytes : Each SixteenBytes (recordsOf history)
+  pub bytes : Each RecordSized (recordsOf history)
   pub names : (i : ℕ) → i < s → take 2 (getD (recordsOf history) i []) ≡ swapAt history i .thread .0 ∷ swapAt history i .request ∷ []
   pub shows-answer : (i : ℕ) → i < a
       → HasAnswer (getD (recordsOf history) i []) (answerMark (getD (plainAnswers f history) i Empty)) (answerValue (getD (plainAnswers f history) i Empty))

@@ -33,7 +33,7 @@ stillOpen = 0
 abbrev pub hasReturned : ℕ
 hasReturned = 1
 
--- a record's 16 bytes, from thread, request, mark, value, serving thread, turn, remote references and byte 12: the order of the listing. Where it
+-- a record's bytes, from thread, request, mark, value, serving thread, turn, remote references and byte 12: the order of the listing. Where it
 -- prints a hyphen the value is 0, the serving thread 255 and the turn 65,535
 abbrev pub listed : ℕ → ℕ → ℕ → ℕ → ℕ → ℕ → ℕ → ℕ → List ℕ
 listed thread request mark value server turn remote ended =

@@ -6,7 +6,7 @@ use Rattle.state.specs.declared.Counts.{Counts}
 use Rattle.history.specs.Terms.{recordsOf, countsOf}
 use Rattle.claims.specs.Entries.{historyOf}
 
--- the result of a file: its refusal, 0 for none; the five counts; the records, 16 bytes each, in Swap order
+-- the result of a file: its refusal, 0 for none; the five counts; the bytes of each record, in Swap order
 pub record Result : Type 0 where
   pub refusal : ℕ
   pub counts : Counts

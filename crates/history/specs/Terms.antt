@@ -130,7 +130,11 @@ abbrev pub retValue : RetVal → ℕ
 retValue NoAnswer = 0
 retValue (Answered answer) = answerValue answer
 
--- a record, its 16 bytes, from thread, request, mark, serving thread, value, remote references, whether the call has returned, and turn
+-- how many bytes a record has
+abbrev pub recordLength : ℕ
+recordLength = 16
+
+-- a record, its bytes, from thread, request, mark, serving thread, value, remote references, whether the call has returned, and turn
 abbrev pub recordBytes : ℕ → ℕ → ℕ → ℕ → ℕ → ℕ → Bool → ℕ → List ℕ
 recordBytes thread request mark server value remote over turn =
     thread ∷ request ∷ mark ∷ server ∷ lowFirst 4 value ++ lowFirst 4 remote ++ oneIf over ∷ lowFirst 2 turn ++ 0 ∷ []

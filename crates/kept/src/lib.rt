@@ -21,6 +21,9 @@ pub struct Kept {
     pub turn: u16,
 }
 
+// How many bytes the record of a call has.
+pub const RECORD_LENGTH: usize = 16;
+
 // The place of no call: that of request 255 of thread 255.
 pub const NO_CALL: u16 = 16 * 255 + 255;
 

@@ -8,6 +8,7 @@ use mathlib.Core.List.{List, [], _∷_, _++_, append-nil, append-assoc}
 use lib.ListN.{length, take, drop, length-drop}
 use lib.Seq.{length-take-le, drop-drop}
 use Rattle.listing.specs.Listing.{recordLine, recordLines}
+use Rattle.history.specs.Terms.{recordLength}
 use Rattle.bench.specs.Run.{recordsLaid}
 use Rattle.listing.specs.Laid.{Laid}
 use Rattle.listing.proofs.Laid.{_&_, told}
@@ -15,14 +16,14 @@ use Rattle.listing.proofs.Laid.{_&_, told}
 laid-length : (count : ℕ) (bytes : List ℕ) → length (recordsLaid count bytes) ≡ count
 unfolding recordsLaid
 laid-length zero bytes = refl
-laid-length (suc count) bytes = ap suc (laid-length count (drop 16 bytes))
+laid-length (suc count) bytes = ap suc (laid-length count (drop recordLength bytes))
 
-laid-more : (count : ℕ) (bytes : List ℕ) → recordsLaid (suc count) bytes ≡ recordsLaid count bytes ++ (take 16 (drop (16 * count) bytes) ∷ [])
+laid-more : (count : ℕ) (bytes : List ℕ) → recordsLaid (suc count) bytes ≡ recordsLaid count bytes ++ (take recordLength (drop (recordLength * count) bytes) ∷ [])
 unfolding recordsLaid
 laid-more zero bytes = refl
 laid-more (suc count) bytes =
-    let e : 16 + 16 * count ≡ 16 * suc count = omega arith in
-    rw (← e, ← drop-drop (16 * count) 16 bytes) (ap (λ (records : List (List ℕ)). take 16 bytes ∷ records) (laid-more count (drop 16 bytes)))
+    let e : recordLength + recordLength * count ≡ recordLength * suc count = omega arith in
+    rw (← e, ← drop-drop (recordLength * count) recordLength bytes) (ap (λ (records : List (List ℕ)). take recordLength bytes ∷ records) (laid-more count (drop recordLength bytes)))
 
 lines-more : (order : ℕ) (records : List (List ℕ)) (bytes : List ℕ) → recordLines order (records ++ (bytes ∷ [])) ≡ recordLines order records ++ recordLine (order + length records) bytes
 unfolding recordLines
@@ -33,16 +34,16 @@ lines-more order (first ∷ records) bytes =
 
 -- the line of record i behind the lines of the records before it
 module _ (bytes : List ℕ) (i : ℕ) where
-  pub record-length : 16 * i + 16 ≤ length bytes → length (take (16 * i + 16 - 16 * i) (drop (16 * i) bytes)) ≡ 16
-  record-length h = length-take-le (16 * i + 16 - 16 * i) (drop (16 * i) bytes) (rw length-drop (omega arith)) ∙ omega arith
+  pub record-length : recordLength * i + recordLength ≤ length bytes → length (take (recordLength * i + recordLength - recordLength * i) (drop (recordLength * i) bytes)) ≡ recordLength
+  record-length h = length-take-le (recordLength * i + recordLength - recordLength * i) (drop (recordLength * i) bytes) (rw length-drop (omega arith)) ∙ omega arith
 
-  lines-one-more : recordLines 0 (recordsLaid i bytes) ++ recordLine i (take 16 (drop (16 * i) bytes)) ≡ recordLines 0 (recordsLaid (i + 1) bytes)
+  lines-one-more : recordLines 0 (recordsLaid i bytes) ++ recordLine i (take recordLength (drop (recordLength * i) bytes)) ≡ recordLines 0 (recordsLaid (i + 1) bytes)
   lines-one-more = rw (add-one, laid-more, lines-more, laid-length, zero-add)
 
   pub line-laid
       : {old mid new : List ℕ} {at next last : ℕ} → Laid old at (recordLines 0 (recordsLaid i bytes)) mid next
-      → Laid mid next (recordLine i (take (16 * i + 16 - 16 * i) (drop (16 * i) bytes))) new last
+      → Laid mid next (recordLine i (take (recordLength * i + recordLength - recordLength * i) (drop (recordLength * i) bytes))) new last
       → Laid old at (recordLines 0 (recordsLaid (i + 1) bytes)) new last
   line-laid before l =
-      let e : 16 * i + 16 - 16 * i ≡ 16 = omega arith in
-      told (λ words. words) lines-one-more (before & told (λ size. recordLine i (take size (drop (16 * i) bytes))) e l)
+      let e : recordLength * i + recordLength - recordLength * i ≡ recordLength = omega arith in
+      told (λ words. words) lines-one-more (before & told (λ size. recordLine i (take size (drop (recordLength * i) bytes))) e l)

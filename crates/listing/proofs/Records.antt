@@ -1,4 +1,4 @@
--- The listing from the records in a buffer; and a record's line shows its call. Assumes records of 16 bytes, and fields in range.
+-- The listing from the records in a buffer; and a record's line shows its call. Assumes records of a record's length, and fields in range.
 use Prim.Native.Nat.{ℕ, _^_, _<_}
 use native.Mathlib.Omega.{arith}
 use mathlib.Core.Path.{_≡_, refl, _∙_}
@@ -17,7 +17,7 @@ use Rattle.step.specs.Entry.{oneIf}
 use Rattle.history.specs.Entries.{Entry}
 use Rattle.history.specs.Terms.{Call, Shown, shownOf, servings, costOf, returned, retMark, retValue, recordOf, recordsOf, countsOf}
 use Rattle.claims.specs.Entries.{historyOf}
-use Rattle.claims.specs.Claims.{SixteenBytes}
+use Rattle.claims.specs.Claims.{RecordSized}
 use Rattle.claims.proofs.Theorem.{claim-whole}
 use Rattle.bench.proofs.InPlace.{laid-back}
 use Rattle.listing.specs.Listing.{headLine, retOf, callLine, recordLine, recordLines, listingOf}
@@ -27,7 +27,7 @@ use Rattle.bench.specs.Run.{recordsLaid}
 pub listing-of-run
     : (f : Fields) (rest : List ℕ) (count : ℕ)
     → let history = historyOf f in
-    Each SixteenBytes (recordsOf history) → count ≡ length (recordsOf history)
+    Each RecordSized (recordsOf history) → count ≡ length (recordsOf history)
     → headLine (f .head) (countsOf history) ++ recordLines 0 (recordsLaid count (eachBytes (λ bytes. bytes) (recordsOf history) ++ rest)) ≡ listingOf (accepted f)
 unfolding listingOf
 listing-of-run f rest count sizes e =

@@ -14,25 +14,24 @@ use Rattle.bench_file.specs.Promise.{Judges, judgedAs}
 use Rattle.bench_file.specs.Bytes.{InRange}
 use Rattle.state.specs.declared.Counts.{Counts}
 use Rattle.history.specs.Entries.{Entry}
-use Rattle.history.specs.Terms.{recordsOf, countsOf}
+use Rattle.history.specs.Terms.{recordLength, recordsOf, countsOf}
 use Rattle.claims.specs.Entries.{historyOf}
 use Rattle.claims.specs.Result.{Result, resultAs}
 use Rattle.claims.proofs.Room.{requests-few, all-swaps-few}
 use Rattle.loader.proofs.Answer.{accepted-fields, refused-number}
 use Rattle.bench.specs.declared.RunAnswer.{RunAnswer}
-use Rattle.bench.specs.Run.{resultIn, written}
+use Rattle.bench.specs.Run.{resultIn, enoughForRecords, written, recordsLaid}
 use Rattle.bench.specs.Promise.{Runs}
 use Rattle.listing.specs.Listing.{headLine, recordLines, refusalLine, listingOf}
-use Rattle.bench.specs.Run.{recordsLaid}
 use Rattle.listing.proofs.Records.{listing-of-run}
 
-module _ {bytes records : List ℕ} {answer : RunAnswer} (runs : Runs bytes (replicate 4096 0) records answer) (f : Fields) (fits : InRange f) (judged : judgeOf bytes ≡ accepted f) where
+module _ {bytes records : List ℕ} {answer : RunAnswer} (runs : Runs bytes (replicate enoughForRecords 0) records answer) (f : Fields) (fits : InRange f) (judged : judgeOf bytes ≡ accepted f) where
   abbrev history : List Entry
   history = historyOf f
 
-  -- 4,096 bytes are enough
-  result : resultIn 4096 (judgeOf bytes) ≡ resultAs (accepted f)
-  result = rw (judged, le-ltb 4096 (16 * sumOf length (f .rows)) (omega (arith, requests-few f fits)))
+  -- so many bytes are enough
+  result : resultIn enoughForRecords (judgeOf bytes) ≡ resultAs (accepted f)
+  result = rw (judged, le-ltb enoughForRecords (recordLength * sumOf length (f .rows)) (omega (arith, requests-few f fits)))
 
   counted : answer .counts ≡ countsOf history
   counted = ap (λ (r : RunAnswer). r .counts) (runs .answer) ∙ ap (λ (r : Result). r .counts) result
@@ -45,7 +44,7 @@ module _ {bytes records : List ℕ} {answer : RunAnswer} (runs : Runs bytes (rep
 
   run-listed : headLine (f .head) (answer .counts) ++ recordLines 0 (recordsLaid (answer .counts .records) records) ≡ listingOf (judgeOf bytes)
   run-listed =
-      let laid : records ≡ written (replicate 4096 0) (recordsOf history) = runs .buffer ∙ ap (λ (r : Result). written (replicate 4096 0) (r .records)) result in
+      let laid : records ≡ written (replicate enoughForRecords 0) (recordsOf history) = runs .buffer ∙ ap (λ (r : Result). written (replicate enoughForRecords 0) (r .records)) result in
       rw (judged, laid, counted) (listing-of-run f _ _ (runs .whole f judged .bytes) (ap (λ (c : Counts). c .records) (sym counted) ∙ as-many))
 
 -- what the listing of an accepted file is made of
@@ -53,7 +52,7 @@ pub record Listable (bytes records : List ℕ) (answer : RunAnswer) (head : Head
   pub most : answer .counts .records ≤ 256
   pub words : headLine head (answer .counts) ++ recordLines 0 (recordsLaid (answer .counts .records) records) ≡ listingOf (judgeOf bytes)
 
-pub listable : {bytes records : List ℕ} {answer : RunAnswer} {r : Judged} {head : Head} {requests entries : ℕ} → Runs bytes (replicate 4096 0) records answer → Judges bytes r → r ≡ Judged.Accepted head requests entries
+pub listable : {bytes records : List ℕ} {answer : RunAnswer} {r : Judged} {head : Head} {requests entries : ℕ} → Runs bytes (replicate enoughForRecords 0) records answer → Judges bytes r → r ≡ Judged.Accepted head requests entries
     → Listable bytes records answer head
 listable {bytes = bytes} {records = records} {answer = answer} runs judges is =
     let (f, judged, same) = accepted-fields (judgeOf bytes) (sym is ∙ judges .answer) in

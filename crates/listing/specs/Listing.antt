@@ -95,7 +95,7 @@ byteAt bytes i = getD bytes i 0
 abbrev pub numberAt : List ℕ → ℕ → ℕ → ℕ
 numberAt bytes i width = littleEndian (take width (drop i bytes))
 
--- the line of a record, from its order and its 16 bytes
+-- the line of a record, from its order and its bytes
 unfoldable pub recordLine : ℕ → List ℕ → List ℕ
 recordLine order bytes =
     let ret = retOf (byteAt bytes 2) (numberAt bytes 4 4) in

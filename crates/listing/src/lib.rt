@@ -11,6 +11,7 @@ ghost use Prim.Native.Nat.{_+_, _*_, _≤_, _<_};
 ghost use lib.ListN.{length};
 ghost use Rattle.listing.specs.Text.{text, digit, decimal, lineEnd};
 ghost use Rattle.listing.specs.Listing.{kindWord, countWords, headLine, retOf, answerWord, markWord, valueWord, servedWord, endWord, servingWords, byteAt, numberAt, recordLine, recordLines, refusalLine};
+ghost use Rattle.history.specs.Terms.{recordLength};
 ghost use Rattle.bench.specs.Run.{recordsLaid};
 ghost use Rattle.listing.specs.Laid.{Laid, headMost, lineMost};
 ghost use Rattle.listing.specs.Promise.{Gives, Lists, enoughBytes};
@@ -172,7 +173,7 @@ fn number4(bytes: &[u8], i: usize) -> u32
 
 // A record's line from its server on.
 fn put_serving(out: &mut [u8], at: usize, bytes: &[u8]) -> usize
-    requires { ⌜ (length (now bytes) ≡ 16) × (at + 43 ≤ length (now out)) ⌝ }
+    requires { ⌜ (length (now bytes) ≡ recordLength) × (at + 43 ≤ length (now out)) ⌝ }
     ensures { λ r. ⌜ Laid (now (out .entry)) at (lineEnd (servingWords (byteAt (now (bytes .entry)) 3) (numberAt (now (bytes .entry)) 13 2) (numberAt (now (bytes .entry)) 8 4) (byteAt (now (bytes .entry)) 12))) (now (out .exit)) r ⌝ }
     ensures { λ r. ⌜ r ≤ at + 43 ⌝ }
 {
@@ -182,9 +183,9 @@ fn put_serving(out: &mut [u8], at: usize, bytes: &[u8]) -> usize
     put_end(out, remote, bytes[12])
 }
 
-// The line of a record, from its order and its 16 bytes.
+// The line of a record, from its order and its bytes.
 fn put_record(out: &mut [u8], at: usize, order: u32, bytes: &[u8]) -> usize
-    requires { ⌜ (length (now bytes) ≡ 16) × (at + lineMost ≤ length (now out)) ⌝ }
+    requires { ⌜ (length (now bytes) ≡ recordLength) × (at + lineMost ≤ length (now out)) ⌝ }
     ensures { λ r. ⌜ Laid (now (out .entry)) at (recordLine order (now (bytes .entry))) (now (out .exit)) r ⌝ }
     ensures { λ r. ⌜ r ≤ at + lineMost ⌝ }
 {
@@ -199,15 +200,15 @@ fn put_record(out: &mut [u8], at: usize, order: u32, bytes: &[u8]) -> usize
 
 // The lines of so many records, of at most 256.
 fn put_records(out: &mut [u8], at: usize, records: &[u8], count: usize) -> usize
-    requires { ⌜ (16 * count ≤ length (now records)) × (at + lineMost * count ≤ length (now out)) × (count ≤ 256) ⌝ }
+    requires { ⌜ (recordLength * count ≤ length (now records)) × (at + lineMost * count ≤ length (now out)) × (count ≤ 256) ⌝ }
     ensures { λ r. ⌜ Laid (now (out .entry)) at (recordLines 0 (recordsLaid count (now (records .entry)))) (now (out .exit)) r ⌝ }
     ensures { λ r. ⌜ r ≤ at + lineMost * count ⌝ }
 {
     let mut next = at;
     let mut i = 0usize;
     while i < count {
-        let from = 16 * i;
-        let end = from + 16;
+        let from = kept::RECORD_LENGTH * i;
+        let end = from + kept::RECORD_LENGTH;
         next = put_record(out, next, i as u32, &records[from..end]);
         i += 1;
     }
@@ -243,7 +244,7 @@ fn put_head(out: &mut [u8], at: usize, head: Head, counts: Counts) -> usize
 
 // The listing of a run, from the buffer's first byte on: its length.
 fn put_run(out: &mut [u8], head: Head, counts: Counts, records: &[u8], count: usize) -> usize
-    requires { ⌜ (16 * count ≤ length (now records)) × (headMost + lineMost * count ≤ length (now out)) × (count ≤ 256) ⌝ }
+    requires { ⌜ (recordLength * count ≤ length (now records)) × (headMost + lineMost * count ≤ length (now out)) × (count ≤ 256) ⌝ }
     ensures { λ r. ⌜ Laid (now (out .entry)) 0 (headLine head counts ++ recordLines 0 (recordsLaid count (now (records .entry)))) (now (out .exit)) r ⌝ }
     ensures { λ r. ⌜ r ≤ headMost + lineMost * count ⌝ }
 {
@@ -277,7 +278,7 @@ fn give(words: &[u8], out: &mut [u8]) -> Listed
 
 // Lists a run of at most 256 records.
 fn list_run(head: Head, counts: Counts, records: &[u8], count: usize, out: &mut [u8]) -> Listed
-    requires { ⌜ (16 * count ≤ length (now records)) × (count ≤ 256) ⌝ }
+    requires { ⌜ (recordLength * count ≤ length (now records)) × (count ≤ 256) ⌝ }
     ensures { λ r. ⌜ Gives (headLine head counts ++ recordLines 0 (recordsLaid count (now (records .entry)))) (now (out .entry)) (now (out .exit)) r ⌝ }
     ensures { λ r. ⌜ (enoughBytes ≤ length (now (out .entry)) → r .refusal ≡ 0) ⌝ }
 {
@@ -300,7 +301,7 @@ fn list_refusal(number: u8, out: &mut [u8]) -> Listed
 pub fn list(file: &[u8], out: &mut [u8]) -> Listed
     ensures { λ r. ⌜ Lists (now (file .entry)) (now (out .entry)) (now (out .exit)) r ⌝ }
 {
-    let mut records = [0u8; 4096];
+    let mut records = [0u8; bench::ENOUGH_FOR_RECORDS];
     let answer = bench::run(file, &mut records);
     let counts = answer.counts;
     match bench_file::judge(file) {

@@ -16,6 +16,7 @@ use Rattle.machine.specs.Sizes.{mostCalls}
 use Rattle.loader.specs.declared.Loaded.{Loaded}
 use Rattle.loader.specs.Load.{loadedAs}
 use Rattle.loader.proofs.Schedule.{schedule-last}
+use Rattle.history.specs.Terms.{recordLength}
 use Rattle.claims.proofs.Room.{requests-few}
 use Rattle.runner.specs.Played.{fieldsOf, fieldsIn, Startable, playedOf, unplayed, playedIn}
 
@@ -25,7 +26,7 @@ pub record Ready (bytes : List ℕ) (j : Judgement) (r : Loaded) : Type 0 where
   pub few : r .requests ≤ mostCalls
   pub entries : r .entries ≤ length bytes
   pub start : Startable (fieldsOf j) bytes (length bytes - r .entries) (r .state)
-  pub plays : (lent : ℕ) → playedIn lent j ≡ cond (ltb lent (16 * r .requests)) (unplayed 13) (playedOf (fieldsOf j))
+  pub plays : (lent : ℕ) → playedIn lent j ≡ cond (ltb lent (recordLength * r .requests)) (unplayed 13) (playedOf (fieldsOf j))
 
 module _ (bytes : List ℕ) (each : Each Byte bytes) {r : Loaded} where
   by-judgement : (j : Judgement) → judgeOf bytes ≡ j → r ≡ loadedAs j → r .refusal ≡ 0 → Ready bytes j r
@@ -50,8 +51,8 @@ refused-plays (accepted f) lent loaded some = absurd (some (ap (λ (r : Loaded).
 refused-plays (refusedBy number) lent loaded some = ap (λ (r : Loaded). unplayed (r .refusal)) loaded
 
 module _ {bytes : List ℕ} {r : Loaded} (now : Ready bytes (judgeOf bytes) r) (lent : ℕ) where
-  pub too-short : lent < 16 * r .requests → unplayed 13 ≡ playedIn lent (judgeOf bytes)
-  too-short h = sym (now .plays lent ∙ rw (lt-ltb lent (16 * r .requests) h))
+  pub too-short : lent < recordLength * r .requests → unplayed 13 ≡ playedIn lent (judgeOf bytes)
+  too-short h = sym (now .plays lent ∙ rw (lt-ltb lent (recordLength * r .requests) h))
 
-  pub enough : 16 * r .requests ≤ lent → playedOf (fieldsIn bytes) ≡ playedIn lent (judgeOf bytes)
-  enough h = sym (now .plays lent ∙ rw (le-ltb lent (16 * r .requests) h))
+  pub enough : recordLength * r .requests ≤ lent → playedOf (fieldsIn bytes) ≡ playedIn lent (judgeOf bytes)
+  enough h = sym (now .plays lent ∙ rw (le-ltb lent (recordLength * r .requests) h))

@@ -11,7 +11,7 @@ use Rattle.bench_file.specs.Bytes.{InRange}
 use Rattle.machine.specs.Sizes.{mostCalls}
 use Rattle.state.specs.declared.State.{State}
 use Rattle.history.specs.Entries.{Entry}
-use Rattle.history.specs.Terms.{swapOrder, countsOf}
+use Rattle.history.specs.Terms.{swapOrder, recordLength, countsOf}
 use Rattle.claims.specs.Entries.{filled, startOf, historyOf}
 use Rattle.claims.specs.Result.{counted}
 use Rattle.runner.specs.declared.Played.{Played}
@@ -53,7 +53,7 @@ playedOf f = playedBy (historyOf f)
 abbrev pub unplayed : ℕ → Played
 unplayed number = record { refusal = number; counts = counted 0 0 0 0 0; kept = replicate mostCalls unkept; order = replicate mostCalls 0 }
 
--- a file's run with so many bytes lent for its records: 16 for each request in the file, performed or not, else 13
+-- a file's run with so many bytes lent for its records: those of a record for each request in the file, performed or not, else 13
 abbrev pub playedIn : ℕ → Judgement → Played
-playedIn lent (accepted f) = cond (ltb lent (16 * requestsOf f)) (unplayed 13) (playedOf f)
+playedIn lent (accepted f) = cond (ltb lent (recordLength * requestsOf f)) (unplayed 13) (playedOf f)
 playedIn lent (refusedBy number) = unplayed number

@@ -135,7 +135,7 @@ fn unplayed(number: u8) -> Played
     }
 }
 
-// The run of any bytes as a bench file, with so many bytes lent for its records: 16 for each request in the file, performed or not, else 13.
+// The run of any bytes as a bench file, with so many bytes lent for its records: those of a record for each request in the file, performed or not, else 13.
 pub fn play(file: &[u8], lent: usize) -> Played
     ensures { λ r. ⌜ r ≡ playedIn lent (judgeOf (now (file .entry))) ⌝ }
 {
@@ -143,7 +143,7 @@ pub fn play(file: &[u8], lent: usize) -> Played
     if loaded.refusal != 0 {
         return unplayed(loaded.refusal);
     }
-    if lent < 16 * loaded.requests {
+    if lent < kept::RECORD_LENGTH * loaded.requests {
         return unplayed(13);
     }
     let start = loaded.state;

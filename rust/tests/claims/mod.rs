@@ -1,13 +1,13 @@
 //! Demand 3 of document 01, so far as it can be seen from outside: evaluated on the records and
 //! counts that a bench returns for every cut of one schedule, and on the file's fields alone.
 
-use ccs::{Counts, Fields};
+use ccs::{Counts, Fields, RECORD_LENGTH};
 
 /// What the bench returned for the schedule cut to some length. The file's own schedule is not read.
 #[derive(Debug, PartialEq, Eq, Clone, Copy)]
 pub struct After<'a> {
     pub counts: Counts,
-    pub records: &'a [[u8; 16]],
+    pub records: &'a [[u8; RECORD_LENGTH]],
 }
 
 /// The claims on the empty cut.
@@ -42,7 +42,7 @@ fn check_cut(file: &Fields, after: &After) -> Result<(), String> {
 }
 
 /// Records name calls of the file, each once: a thread's calls in their order, one at a time.
-fn check_calls(file: &Fields, records: &[[u8; 16]]) -> Result<(), String> {
+fn check_calls(file: &Fields, records: &[[u8; RECORD_LENGTH]]) -> Result<(), String> {
     let mut seen = [0; 16];
     let mut open = [false; 16];
     for record in records {
@@ -69,7 +69,7 @@ fn check_calls(file: &Fields, records: &[[u8; 16]]) -> Result<(), String> {
 }
 
 /// The applied requests are the first ones in Swap order, answered as by the plain object.
-fn check_answers(file: &Fields, records: &[[u8; 16]]) -> Result<(), String> {
+fn check_answers(file: &Fields, records: &[[u8; RECORD_LENGTH]]) -> Result<(), String> {
     let mut object = Plain::new(file);
     let a = applied(records);
     for record in &records[..a] {
@@ -95,7 +95,11 @@ fn check_answers(file: &Fields, records: &[[u8; 16]]) -> Result<(), String> {
 
 /// Turns follow one another in Swap order; each has one server, which serves itself first, and
 /// serves at most h. Only the last turn begun may have served none yet.
-fn check_turns(file: &Fields, counts: &Counts, records: &[[u8; 16]]) -> Result<(), String> {
+fn check_turns(
+    file: &Fields,
+    counts: &Counts,
+    records: &[[u8; RECORD_LENGTH]],
+) -> Result<(), String> {
     let a = applied(records);
     let mut turns = 0;
     let mut served = 0;
@@ -136,7 +140,11 @@ fn check_turns(file: &Fields, counts: &Counts, records: &[[u8; 16]]) -> Result<(
 }
 
 /// The bounds on a returned call, and what the total is beside the records' costs.
-fn check_costs(file: &Fields, counts: &Counts, records: &[[u8; 16]]) -> Result<(), String> {
+fn check_costs(
+    file: &Fields,
+    counts: &Counts,
+    records: &[[u8; RECORD_LENGTH]],
+) -> Result<(), String> {
     let mut sum = 0;
     for (i, record) in records.iter().enumerate() {
         sum += u64::from(number(record, 8));
@@ -315,12 +323,12 @@ fn grows(old: u32, new: u32, most: u32) -> bool {
 }
 
 /// How many requests are applied: the records before the first that isn't.
-fn applied(records: &[[u8; 16]]) -> usize {
+fn applied(records: &[[u8; RECORD_LENGTH]]) -> usize {
     records.iter().take_while(|record| record[2] != 255).count()
 }
 
 /// How many turns have served.
-fn applied_turns(records: &[[u8; 16]]) -> u32 {
+fn applied_turns(records: &[[u8; RECORD_LENGTH]]) -> u32 {
     let a = applied(records);
     if a == 0 {
         0
@@ -330,25 +338,25 @@ fn applied_turns(records: &[[u8; 16]]) -> u32 {
 }
 
 /// The record of the thread's call that is past its Swap and has not returned.
-fn open_call(records: &[[u8; 16]], thread: u8) -> Option<usize> {
+fn open_call(records: &[[u8; RECORD_LENGTH]], thread: u8) -> Option<usize> {
     records
         .iter()
         .position(|record| record[0] == thread && !returned(record))
 }
 
 /// Whether all requests of the thread have returned.
-fn exhausted(file: &Fields, records: &[[u8; 16]], thread: u8) -> bool {
+fn exhausted(file: &Fields, records: &[[u8; RECORD_LENGTH]], thread: u8) -> bool {
     let own = records
         .iter()
         .filter(|record| record[0] == thread && returned(record));
     own.count() == usize::from(file.counts[usize::from(thread)])
 }
 
-fn returned(record: &[u8; 16]) -> bool {
+fn returned(record: &[u8; RECORD_LENGTH]) -> bool {
     record[12] == 1
 }
 
-fn turn(record: &[u8; 16]) -> u32 {
+fn turn(record: &[u8; RECORD_LENGTH]) -> u32 {
     u16::from_le_bytes([record[13], record[14]]).into()
 }
 
@@ -357,7 +365,7 @@ fn number(bytes: &[u8], at: usize) -> u32 {
 }
 
 /// The five bytes of the request that a record names.
-fn request<'a>(file: &Fields<'a>, record: &[u8; 16]) -> &'a [u8] {
+fn request<'a>(file: &Fields<'a>, record: &[u8; RECORD_LENGTH]) -> &'a [u8] {
     let earlier = &file.counts[..usize::from(record[0])];
     let number = earlier
         .iter()

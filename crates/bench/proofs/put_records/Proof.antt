@@ -8,7 +8,7 @@ use Rattle.machine.specs.Sizes.{mostCalls}
 use Rattle.kept.specs.Kept.{callAt, unkept}
 use Rattle.history.proofs.Places.{getD-any}
 use Rattle.bench.specs.Records.{keptRecord, recordAt}
-use Rattle.bench.proofs.Putting.{sixteen, RecordsLaid, lays-none, lays, lays-all}
+use Rattle.bench.proofs.Putting.{record-long, RecordsLaid, lays-none, lays, lays-all}
 use Rattle.bench.proofs.put_records.Statement.{statement}
 use Rattle.bench.proofs.put_records.Tie as tie
 
@@ -83,7 +83,7 @@ copy-requires c κs =
     let called = c .before .before in
     let at = called .before .before in
     simp (length-take, length-drop)
-    (omega (arith, given at .pre .0, ap length (answered called) ∙ sixteen (given at .args .t3) _))
+    (omega (arith, given at .pre .0, ap length (answered called) ∙ record-long (given at .args .t3) _))
 
 add-i : tie.Need-add-i Inv-loop μ-loop
 add-i c = search needs

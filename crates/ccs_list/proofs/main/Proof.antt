@@ -4,6 +4,7 @@ use mathlib.Core.Path.{_≡_, sym}
 use lib.ListN.{length}
 use lib.Seq.{length-take-le}
 use borrow.Author.Needs.{needs}
+use Rattle.listing.specs.Promise.{enoughBytes}
 use Rattle.ccs_list.proofs.main.Statement.{statement}
 use Rattle.ccs_list.proofs.main.Tie as tie
 
@@ -28,7 +29,7 @@ array-share-prefix-text c = search needs
 slice-aggregate-write-all : tie.Need-slice-aggregate-write-all
 slice-aggregate-write-all c =
     let listed = c .before .before .list-start in
-    let long : length (listed .last .1 .1 .0) ≡ 23677 = search needs in
+    let long : length (listed .last .1 .1 .0) ≡ enoughBytes = search needs in
     sym (length-take-le (listed .result) (listed .last .1 .1 .0) (omega (arith, listed .ensures .1, long)))
 
 write-all-requires : tie.Need-write-all-requires

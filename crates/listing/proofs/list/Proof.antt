@@ -6,6 +6,7 @@ use mathlib.Core.List.{List}
 use lib.ListN.{length}
 use borrow.Author.Needs.{needs}
 use Rattle.bench_file.specs.Layout.{judgeOf}
+use Rattle.bench.specs.Run.{enoughForRecords}
 use Rattle.listing.proofs.Giving.{lists}
 use Rattle.listing.proofs.Service.{Listable, listable, refusal-listed}
 use Rattle.listing.proofs.list.Statement.{statement}
@@ -22,7 +23,7 @@ ready : (c : tie.After-head) → let run = ran (c .before .before) in
     Listable (file run) (run .run .last .1 .0) (run .run .result) (c .head .given .0 .0)
 ready c = listable (ran (c .before .before) .run .ensures) (c .before .before .judge .ensures) (c .head .given .1)
 
-long : (c : tie.After-run) → length (c .run .last .1 .0) ≡ 4096
+long : (c : tie.After-run) → length (c .run .last .1 .0) ≡ enoughForRecords
 long c = search needs
 
 slice-aggregate-run : tie.Need-slice-aggregate-run
