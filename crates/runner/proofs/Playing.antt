@@ -4,7 +4,8 @@ use native.Mathlib.Omega.{arith}
 use mathlib.Core.Path.{_≡_, refl, sym, ap, _∙_}
 use mathlib.Core.Bool.{cond}
 use mathlib.Core.List.{List}
-use lib.ListN.{length}
+use lib.ListN.{length, take, drop, length-drop}
+use lib.Seq.{take-length}
 use lib.Dec.{ltb}
 use borrow.Author.Tests.{lt-ltb, le-ltb}
 use Rattle.object.specs.Each.{Each, sumOf}
@@ -17,15 +18,24 @@ use Rattle.loader.specs.declared.Loaded.{Loaded}
 use Rattle.loader.specs.Load.{loadedAs}
 use Rattle.loader.proofs.Schedule.{schedule-last}
 use Rattle.history.specs.Terms.{recordLength}
+use Rattle.claims.specs.Entries.{startOf}
 use Rattle.claims.proofs.Room.{requests-few}
-use Rattle.runner.specs.Played.{fieldsOf, fieldsIn, Startable, playedOf, unplayed, playedIn}
+use Rattle.runner.specs.Played.{fieldsOf, fieldsIn, Startable, playedFrom, playedOf, unplayed, playedIn}
+
+-- the bytes from a place on, as a slice of them has them
+abbrev part : List ℕ → ℕ → List ℕ
+part bytes first = take (length bytes - first) (drop first bytes)
+
+part-rest : (bytes : List ℕ) (first : ℕ) → part bytes first ≡ drop first bytes
+part-rest bytes first = rw (← length-drop first bytes) (take-length (drop first bytes))
 
 -- an accepted file, loaded
 pub record Ready (bytes : List ℕ) (j : Judgement) (r : Loaded) : Type 0 where
   pub requests : r .requests ≡ sumOf length (fieldsOf j .rows)
   pub few : r .requests ≤ mostCalls
   pub entries : r .entries ≤ length bytes
-  pub start : Startable (fieldsOf j) bytes (length bytes - r .entries) (r .state)
+  pub start : Startable (part bytes (length bytes - r .entries)) (r .state)
+  pub played : playedFrom (r .state) (part bytes (length bytes - r .entries)) ≡ playedOf (fieldsOf j)
   pub plays : (lent : ℕ) → playedIn lent j ≡ cond (ltb lent (recordLength * r .requests)) (unplayed 13) (playedOf (fieldsOf j))
 
 module _ (bytes : List ℕ) (each : Each Byte bytes) {r : Loaded} where
@@ -33,11 +43,13 @@ module _ (bytes : List ℕ) (each : Each Byte bytes) {r : Loaded} where
   by-judgement (accepted f) e loaded zero =
       let fits = accepted-in-range bytes f each e in
       let last = schedule-last bytes f each e in
+      let entries = part-rest bytes (length bytes - length (f .schedule)) ∙ last .1 in
       rw loaded (record {
         requests = refl;
         few = requests-few f fits;
         entries = last .0;
-        start = record { fits = fits; schedule = last .1; inside = omega arith; start = refl };
+        start = record { file = f; fits = fits; entries = entries; start = refl };
+        played = ap (playedFrom (startOf f)) entries;
         plays = λ lent. refl;
       })
   by-judgement (refusedBy number) e loaded zero =

@@ -35,7 +35,6 @@ use Rattle.history.proofs.Sums.{cost-fits}
 use Rattle.claims.proofs.Counted.{next-fits}
 use Rattle.kept.specs.declared.Kept.{Kept}
 use Rattle.kept.specs.Kept.{callAt, unkept, afterEntry}
-use Rattle.runner.specs.Played.{fieldsIn}
 use Rattle.runner.proofs.Running.{Running, few, call-below, running-next, changed, Looping}
 use Rattle.runner.proofs.Tables.{place, served, enteredCalls, servedCalls}
 
@@ -138,16 +137,16 @@ kept-same kept u none fits =
     let same : Bool → Kept = λ test. record { mark = kept .mark; server = kept .server; value = kept .value; remote = kept .remote; returned = test || kept .returned; turn = kept .turn } in
     rw (none, add-zero, mod-eq-of-lt fits) (ap same (u .no-return))
 
-module _ {bytes : List ℕ} {rows : List Row} {n h capacity i : ℕ} {kind : Kind} {s : State} {kept : List Kept} {order given turns : List ℕ} {counts : Counts}
-    (x : Looping bytes rows n h kind capacity i s kept order given turns) (inside : i < length bytes) (q : Quiet s (threadId (getD bytes i 0)) counts) where
+module _ {bytes : List ℕ} {start : State} {rows : List Row} {n h capacity i : ℕ} {kind : Kind} {s : State} {kept : List Kept} {order given turns : List ℕ} {counts : Counts}
+    (x : Looping bytes start rows n h kind capacity i s kept order given turns) (inside : i < length bytes) (q : Quiet s (threadId (getD bytes i 0)) counts) where
   abbrev t : ThreadId
   t = threadId (getD bytes i 0)
 
-  abbrev run : Running (fieldsIn bytes) bytes i s kept order given turns
+  abbrev run : Running (x .file) bytes i s kept order given turns
   run = x .running
 
   short : length (run .past) < 32768
-  short = few (fieldsIn bytes) bytes (x .fits) run inside
+  short = few (x .file) bytes (x .fits) run inside
 
   -- no count wraps
   pub counts-fit : CountsFit counts
@@ -156,7 +155,7 @@ module _ {bytes : List ℕ} {rows : List Row} {n h capacity i : ℕ} {kind : Kin
   -- what is kept of the call has its remote references in 32 bits
   remote-fits : getD kept (place s t) unkept .remote < 2 ^ 32
   remote-fits =
-      rw (run .tables .calls (place s t) (call-below (fieldsIn bytes) bytes (x .fits) run inside))
+      rw (run .tables .calls (place s t) (call-below (x .file) bytes (x .fits) run inside))
       (cost-fits (run .past) (run .going .counted .few) (omega (arith, short)) (callAt (place s t)))
 
   calls-same : servedCalls s t unkept given turns (enteredCalls s t unkept kept) ≡ kept
@@ -169,8 +168,20 @@ module _ {bytes : List ℕ} {rows : List Row} {n h capacity i : ℕ} {kind : Kin
       ∙ ap (set kept own) (kept-same (getD kept own unkept) (q .unnoted) none remote-fits) ∙ set-getD kept own unkept
 
   -- one more quiet entry
-  pub looping-quiet : Looping bytes rows n h kind capacity (i + 1) (changed s (s .object) counts) kept order given turns
+  pub looping-quiet : Looping bytes start rows n h kind capacity (i + 1) (changed s (s .object) counts) kept order given turns
   looping-quiet =
       let next = rw (quiet-entered s t q, calls-same, q .unnoted .no-swap, q .unnoted .no-turn) at
-      (running-next (fieldsIn bytes) bytes (x .fits) run inside unkept) in
-      search (arith, x, next)
+      (running-next (x .file) bytes (x .fits) run inside unkept) in
+      record {
+        file = x .file;
+        fits = x .fits;
+        entries = x .entries;
+        fresh = x .fresh;
+        table = x .table;
+        threads = x .threads;
+        limit = x .limit;
+        object = x .object;
+        room = x .room;
+        inside = omega arith;
+        running = next;
+      }

@@ -48,11 +48,11 @@ use Rattle.claims.proofs.Theorem.{run-layers}
 use Rattle.kept.specs.declared.Kept.{Kept}
 use Rattle.runner.specs.declared.Played.{Played}
 use Rattle.kept.specs.Kept.{placeOf, callAt, keptOf, unkept, afterEntry, afterServing}
-use Rattle.runner.specs.Played.{fieldsIn, Startable, playedOf}
+use Rattle.runner.specs.Played.{Startable, playedFrom}
 use Rattle.runner.proofs.Tabled.{is-tabled}
 use Rattle.runner.proofs.Tables.{Tables, tables-start, place, served, enteredCalls, servedCalls, orderAfter, givenAfter, turnsAfter, place-below, served-below, tables-next}
 
--- the run at place i of the bytes: the entries so far, and what is left of the schedule
+-- the run at place i of the schedule: the entries so far, and what is left
 pub record Running (f : Fields) (bytes : List ℕ) (i : ℕ) (s : State) (kept : List Kept) (order given turns : List ℕ) : Type 0 where
   pub past : List Entry
   pub going : Going f s past
@@ -69,9 +69,9 @@ more-swaps [] past = omega arith
 more-swaps (e ∷ rest) past = omega (arith, more-swaps rest (e ∷ past))
 
 module _ (f : Fields) (bytes : List ℕ) (fits : InRange f) where
-  running-start : (from : ℕ) → drop from bytes ≡ f .schedule → Running f bytes from (startOf f) (replicate mostCalls unkept) (replicate mostCalls 0) (replicate mostNodes (placeOf noCall)) (replicate 16 noTurn)
+  running-start : bytes ≡ f .schedule → Running f bytes 0 (startOf f) (replicate mostCalls unkept) (replicate mostCalls 0) (replicate mostNodes (placeOf noCall)) (replicate 16 noTurn)
   unfolding stateAfter
-  running-start from e =
+  running-start e =
       let fresh = run-layers f fits 0 in
       record {
         past = [];
@@ -246,44 +246,53 @@ module _ (s J : State) (answer : Answer) (ev : Event) (req : Announced) where
   serves-none q a j = rw q (record { answers = a; state = j })
 
 -- what the loop holds: what it read once, and the run
-pub record Looping (bytes : List ℕ) (rows : List Row) (n h : ℕ) (kind : Kind) (capacity i : ℕ) (s : State) (kept : List Kept) (order given turns : List ℕ) : Type 0 where
-  pub fits : InRange (fieldsIn bytes)
+pub record Looping (bytes : List ℕ) (start : State) (rows : List Row) (n h : ℕ) (kind : Kind) (capacity i : ℕ) (s : State) (kept : List Kept) (order given turns : List ℕ) : Type 0 where
+  pub file : Fields
+  pub fits : InRange file
+  pub entries : bytes ≡ file .schedule
+  pub fresh : start ≡ startOf file
   pub table : rows ≡ map rowOf (L0 ∷ printed)
   pub threads : n ≡ s .n
   pub limit : h ≡ s .h
   pub object : kind ≡ s .kind
   pub room : capacity ≡ s .capacity
   pub inside : i ≤ length bytes
-  pub running : Running (fieldsIn bytes) bytes i s kept order given turns
+  pub running : Running file bytes i s kept order given turns
 
 -- the start of the loop
-pub looping-start : {bytes : List ℕ} {rows : List Row} {from : ℕ} {s : State} {kept : List Kept} → rows ≡ map rowOf (L0 ∷ printed) → kept ≡ replicate mostCalls unkept
-    → Startable (fieldsIn bytes) bytes from s
-    → Looping bytes rows (s .n) (s .h) (s .kind) (s .capacity) from s kept (replicate mostCalls 0) (replicate mostNodes (placeOf noCall)) (replicate 16 noTurn)
-looping-start {bytes = bytes} {from = from} table fresh ready =
-    let running = running-start (fieldsIn bytes) bytes (ready .fits) from (ready .schedule) in
+pub looping-start : {bytes : List ℕ} {rows : List Row} {s : State} {kept : List Kept} → rows ≡ map rowOf (L0 ∷ printed) → kept ≡ replicate mostCalls unkept
+    → Startable bytes s
+    → Looping bytes s rows (s .n) (s .h) (s .kind) (s .capacity) 0 s kept (replicate mostCalls 0) (replicate mostNodes (placeOf noCall)) (replicate 16 noTurn)
+looping-start {bytes = bytes} table fresh ready =
+    let running = running-start (ready .file) bytes (ready .fits) (ready .entries) in
     record {
+      file = ready .file;
       fits = ready .fits;
+      entries = ready .entries;
+      fresh = ready .start;
       table = table;
       threads = refl;
       limit = refl;
       object = refl;
       room = refl;
-      inside = ready .inside;
+      inside = omega arith;
       running = rw (ready .start, fresh) running;
     }
 
-module _ {bytes : List ℕ} {rows : List Row} {n h capacity i : ℕ} {kind : Kind} {s : State} {kept : List Kept} {order given turns : List ℕ}
-    (x : Looping bytes rows n h kind capacity i s kept order given turns) where
+module _ {bytes : List ℕ} {start : State} {rows : List Row} {n h capacity i : ℕ} {kind : Kind} {s : State} {kept : List Kept} {order given turns : List ℕ}
+    (x : Looping bytes start rows n h kind capacity i s kept order given turns) where
   -- one more entry
   pub looping-next : (inside : i < length bytes) {k p remote call their : ℕ} {r : Row} {m : NodeId} {ev : Event} {applies : Bool} {ob : Applied} {e : Effect} {copies order′ given′ turns′ : List ℕ} {more counts : Counts} {d mine theirs : Kept}
       {J : State} {answer : Answer} → Called s (threadId (getD bytes i 0)) k r m ev p ob e remote copies more → Serves s J answer ob → counts ≡ wrapped (plus (s .counts) more)
-      → Booked (fieldsIn bytes) bytes (x .fits) (x .running) inside d ev applies m answer e remote call their order′ given′ turns′ mine theirs
-      → Looping bytes rows n h kind capacity (i + 1) (made J (threadId (getD bytes i 0)) m (J .object) e copies counts) (set (set kept call mine) their theirs) order′ given′ turns′
+      → Booked (x .file) bytes (x .fits) (x .running) inside d ev applies m answer e remote call their order′ given′ turns′ mine theirs
+      → Looping bytes start rows n h kind capacity (i + 1) (made J (threadId (getD bytes i 0)) m (J .object) e copies counts) (set (set kept call mine) their theirs) order′ given′ turns′
   looping-next inside called serves sum b =
-      let next = running-booked (fieldsIn bytes) bytes (x .fits) (x .running) inside called sum (rw (serves .answers) at b) in
+      let next = running-booked (x .file) bytes (x .fits) (x .running) inside called sum (rw (serves .answers) at b) in
       rw (serves .state) (record {
+        file = x .file;
         fits = x .fits;
+        entries = x .entries;
+        fresh = x .fresh;
         table = x .table;
         threads = x .threads;
         limit = x .limit;
@@ -294,8 +303,8 @@ module _ {bytes : List ℕ} {rows : List Row} {n h capacity i : ℕ} {kind : Kin
       })
 
   -- the end of the loop
-  pub looping-ends : length bytes ≤ i → _≡_ {A = Played} (record { refusal = 0; counts = s .counts; kept = kept; order = order }) (playedOf (fieldsIn bytes))
+  pub looping-ends : length bytes ≤ i → _≡_ {A = Played} (record { refusal = 0; counts = s .counts; kept = kept; order = order }) (playedFrom start bytes)
   looping-ends done =
       let run = x .running in
-      let whole = ends-none (fieldsIn bytes) bytes (x .fits) run done in
-      rw (← whole, run .going .counted .counts, run .tables .swaps, is-tabled (λ p. keptOf (run .past) (callAt p)) kept mostCalls unkept (run .tables .calls-long) (run .tables .calls)) refl
+      let whole = ends-none (x .file) bytes (x .fits) run done in
+      rw (x .entries, x .fresh, ← whole, run .going .counted .counts, run .tables .swaps, is-tabled (λ p. keptOf (run .past) (callAt p)) kept mostCalls unkept (run .tables .calls-long) (run .tables .calls)) refl

@@ -2,7 +2,7 @@
 use Prim.Native.Nat.{ℕ, zero, suc, _+_, _*_, _≤_}
 use mathlib.Core.Path.{_≡_}
 use mathlib.Core.Bool.{cond}
-use mathlib.Core.List.{List, [], _∷_, map}
+use mathlib.Core.List.{List, [], _∷_, map, reverse}
 use lib.ListN.{length, drop, replicate}
 use lib.Dec.{ltb}
 use Rattle.object.specs.declared.Kind.the-variants.{Queue}
@@ -12,7 +12,7 @@ use Rattle.machine.specs.Sizes.{mostCalls}
 use Rattle.state.specs.declared.State.{State}
 use Rattle.history.specs.Entries.{Entry}
 use Rattle.history.specs.Terms.{swapOrder, recordLength, countsOf}
-use Rattle.claims.specs.Entries.{filled, startOf, historyOf}
+use Rattle.claims.specs.Entries.{filled, startOf, entriesFrom}
 use Rattle.claims.specs.Result.{counted}
 use Rattle.runner.specs.declared.Played.{Played}
 use Rattle.kept.specs.Kept.{placeOf, callAt, keptOf, unkept}
@@ -25,19 +25,19 @@ fieldsOf (refusedBy number) = record { head = record { object = Queue; n = 0; h 
 abbrev pub fieldsIn : List ℕ → Fields
 fieldsIn bytes = fieldsOf (judgeOf bytes)
 
--- fields in range, the schedule from a place on to the end of the bytes, and the fresh machine
-pub record Startable (f : Fields) (bytes : List ℕ) (from : ℕ) (s : State) : Type 0 where
-  pub fits : InRange f
-  pub schedule : drop from bytes ≡ f .schedule
-  pub inside : from ≤ length bytes
-  pub start : s ≡ startOf f
+-- the schedule and the fresh machine of a file whose fields are in range
+pub record Startable (schedule : List ℕ) (s : State) : Type 0 where
+  pub file : Fields
+  pub fits : InRange file
+  pub entries : schedule ≡ file .schedule
+  pub start : s ≡ startOf file
 
 -- the values of so many places, from a first place on
 unfoldable pub tabled : {A : Type 0} → (ℕ → A) → ℕ → ℕ → List A
 tabled value from zero = []
 tabled value from (suc k) = value from ∷ tabled value (from + 1) k
 
--- what is left after all entries of a file
+-- what a run leaves
 abbrev playedBy : List Entry → Played
 playedBy history = record {
   refusal = 0;
@@ -46,8 +46,12 @@ playedBy history = record {
   order = filled mostCalls 0 (map placeOf (swapOrder history));
 }
 
+-- after all entries of a schedule from a state, and of a file
+abbrev pub playedFrom : State → List ℕ → Played
+playedFrom s schedule = playedBy (reverse (entriesFrom s schedule))
+
 abbrev pub playedOf : Fields → Played
-playedOf f = playedBy (historyOf f)
+playedOf f = playedFrom (startOf f) (f .schedule)
 
 -- nothing is kept of a refusal
 abbrev pub unplayed : ℕ → Played

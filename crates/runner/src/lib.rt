@@ -1,7 +1,7 @@
 // A bench file's run from its fresh machine, in place: one local state stepped entry by entry, and what a record needs kept of each call.
 ghost use mathlib.Core.Path.{_≡_};
 ghost use Rattle.bench_file.specs.Layout.{judgeOf};
-ghost use Rattle.runner.specs.Played.{fieldsIn, Startable, playedOf, unplayed, playedIn};
+ghost use Rattle.runner.specs.Played.{Startable, playedFrom, unplayed, playedIn};
 use kept::Kept;
 use machine::Event;
 use machine::Field;
@@ -19,10 +19,10 @@ pub struct Played {
     pub order: [u16; machine::CALLS],
 }
 
-// The run of a file from its fresh machine, in place. The schedule stands from a place on to the file's end.
-fn from_start(file: &[u8], schedule: usize, start: State) -> Played
-    requires { ⌜ Startable (fieldsIn (now file)) (now file) schedule start ⌝ }
-    ensures { λ r. ⌜ r ≡ playedOf (fieldsIn (now (file .entry))) ⌝ }
+// The run of a file's schedule from its fresh machine, in place.
+fn from_start(schedule: &[u8], start: State) -> Played
+    requires { ⌜ Startable (now schedule) start ⌝ }
+    ensures { λ r. ⌜ r ≡ playedFrom start (now (schedule .entry)) ⌝ }
 {
     let rows = machine::all_rows();
     let n = start.n;
@@ -34,9 +34,9 @@ fn from_start(file: &[u8], schedule: usize, start: State) -> Played
     let mut order = [0u16; machine::CALLS];
     let mut given = [kept::NO_CALL; machine::NODES];
     let mut turns = [kept::NO_TURN; 16];
-    let mut i = schedule;
-    while i < file.len() {
-        let thread = ThreadId(file[i]);
+    let mut i = 0usize;
+    while i < schedule.len() {
+        let thread = ThreadId(schedule[i]);
         let t = thread.0 as usize;
         let named = state.threads[t];
         let line = machine::line_run(named);
@@ -147,6 +147,6 @@ pub fn play(file: &[u8], lent: usize) -> Played
         return unplayed(13);
     }
     let start = loaded.state;
-    let schedule = file.len() - loaded.entries;
-    from_start(file, schedule, start)
+    let first = file.len() - loaded.entries;
+    from_start(&file[first..], start)
 }

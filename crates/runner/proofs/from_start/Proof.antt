@@ -31,12 +31,12 @@ use Rattle.runner.proofs.from_start.Statement.{statement}
 use Rattle.runner.proofs.from_start.Tie as tie
 
 abbrev Inv-loop : tie.InvT-loop
-Inv-loop file schedule rows n h kind capacity state₀ kept₀ order₀ given₀ turns₀ i₀ state kept order given turns i =
-    Looping file rows n h kind capacity i state kept order given turns
+Inv-loop schedule rows n h kind capacity state₀ kept₀ order₀ given₀ turns₀ i₀ state kept order given turns i =
+    Looping schedule state₀ rows n h kind capacity i state kept order given turns
 
 abbrev μ-loop : tie.MeasureT-loop
-μ-loop file schedule rows n h kind capacity state₀ kept₀ order₀ given₀ turns₀ i₀ state kept order given turns i =
-    length file - i
+μ-loop schedule rows n h kind capacity state₀ kept₀ order₀ given₀ turns₀ i₀ state kept order given turns i =
+    length schedule - i
 
 -- the entry that the loop is at, from each of its calls
 abbrev entry : tie.After-line-run Inv-loop μ-loop → tie.In-loop Inv-loop μ-loop
@@ -89,7 +89,7 @@ abbrev state : tie.In-loop Inv-loop μ-loop → State
 state c = c .before .loop .state
 
 abbrev thread : tie.In-loop Inv-loop μ-loop → ThreadId
-thread c = threadId (getD (c .before .before .before .before .before .args .file .now) (c .before .loop .i) 0)
+thread c = threadId (getD (c .before .before .before .before .before .args .schedule .now) (c .before .loop .i) 0)
 
 abbrev row : tie.After-line-run Inv-loop μ-loop → Row
 row c = getD (entry c .before .before .before .all-rows .result) (c .line-run .result) (rowOf L0)
@@ -227,8 +227,8 @@ unkept-requires c κs = search needs
 loop-holds : tie.Need-loop-holds Inv-loop μ-loop
 loop-holds c = looping-start (c .before .all-rows .ensures) (ap (replicate mostCalls) (c .unkept .ensures)) (c .before .before .before .pre)
 
-shared-slice-read-t57 : tie.Need-shared-slice-read-t57 Inv-loop μ-loop
-shared-slice-read-t57 c = c .before .loop-test .taken
+shared-slice-read-t56 : tie.Need-shared-slice-read-t56 Inv-loop μ-loop
+shared-slice-read-t56 c = c .before .loop-test .taken
 
 cast-t : tie.Need-cast-t Inv-loop μ-loop
 cast-t c = omega (arith, thread-below (c .before .before))
@@ -457,7 +457,7 @@ from-start-spec =
     all-rows-requires
     unkept-requires
     loop-holds
-    shared-slice-read-t57
+    shared-slice-read-t56
     cast-t
     mul-named
     element-copy-out-named

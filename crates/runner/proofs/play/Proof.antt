@@ -40,14 +40,25 @@ unplayed-requires-2 c κs = search needs
 returns-2 : tie.Need-returns-2
 returns-2 c = c .unplayed2 .ensures ∙ too-short (now (c .before .before .before)) _ (c .before .if2 .taken)
 
-sub-schedule : tie.Need-sub-schedule
-sub-schedule c = now (c .before .before .before .before) .entries
+sub-first : tie.Need-sub-first
+sub-first c = now (c .before .before .before .before) .entries
+
+sub-from-start : tie.Need-sub-from-start
+sub-from-start c = search needs
+
+part-from-start-start : tie.Need-part-from-start-start
+part-from-start-start c = search needs
+
+part-from-start-end : tie.Need-part-from-start-end
+part-from-start-end c = search needs
 
 from-start-requires : tie.Need-from-start-requires
-from-start-requires c κs = now (c .before .before .before .before) .start
+from-start-requires c κs = now (c .before .before .before .before .before) .start
 
 returns-3 : tie.Need-returns-3
-returns-3 c = c .from-start .ensures ∙ enough (now (c .before .before .before .before .before)) _ (c .before .before .before .if2 .left)
+returns-3 c =
+    let ready = now (c .before .before .before .before .before .before) in
+    c .from-start .ensures ∙ ready .played ∙ enough ready _ (c .before .before .before .before .if2 .left)
 
 pub play-spec : {M : Type 1} → statement M
 play-spec =
@@ -59,6 +70,9 @@ play-spec =
     mul-if2
     unplayed-requires-2
     returns-2
-    sub-schedule
+    sub-first
+    sub-from-start
+    part-from-start-start
+    part-from-start-end
     from-start-requires
     returns-3)
