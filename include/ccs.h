@@ -5,7 +5,7 @@
  *
  * Pointers: each points to as many bytes or numbers as the length beside it or the parameter says, and is not NULL, even where the length is 0. What
  * is lent for writing overlaps nothing else that is passed. Nothing is kept of a pointer after the call, and no function writes to memory that is
- * not lent to it. The functions may be called from several threads at once. ccs_run needs 32 KiB of stack, ccs_list 64 KiB, the others 1 KiB.
+ * not lent to it. The functions may be called from several threads at once. ccs_run needs 40 KiB of stack, ccs_list 80 KiB, the others 1 KiB.
  *
  * The bench file, version 1, numbers low byte first:
  *   bytes 0 to 2   mark, 'C' 'C' 'S'
@@ -28,6 +28,11 @@
  *   byte 12        1 once returned, else 0
  *   bytes 13, 14   turn that served it, 65,535 before serving
  *   byte 15        0
+ *   bytes 16 to 19 number of the entry that ran the call's line 1
+ *   bytes 20 to 23 number of the entry with which it returned (its line 11 or 21), 4,294,967,295 while it is open
+ * An entry's number is its place in the whole schedule, from 0: blanks, spins and other threads' entries are numbered too. The two numbers are the
+ * ends of the call's bar on a time line of entries. Of two calls whose bars do not overlap, the earlier one stands earlier in Swap order: if one's
+ * bytes 20 to 23 are below another's bytes 16 to 19, its record comes before the other's.
  */
 #ifndef CCS_H
 #define CCS_H
@@ -59,9 +64,9 @@ enum {
 
 /* The bytes of one record, how many hold the records of every file, and how many the listing of every file. */
 enum {
-    CCS_RECORD_LENGTH = 16,
+    CCS_RECORD_LENGTH = 24,
     CCS_ENOUGH_FOR_RECORDS = 256 * CCS_RECORD_LENGTH,
-    CCS_ENOUGH_FOR_LISTING = 23677
+    CCS_ENOUGH_FOR_LISTING = 29309
 };
 
 /* The places of the numbers that ccs_judge tells. */
@@ -88,8 +93,8 @@ enum {
 /* Judges file as a bench file: 0, or 1 to 12. The numbers are those of the file, or all 0 if it is refused. */
 uint8_t ccs_judge(const uint8_t *file, size_t file_length, size_t numbers[CCS_JUDGED_NUMBERS]);
 
-/* Runs file as a bench file: 0, or 1 to 12 for the file, or 13 where out has fewer than CCS_RECORD_LENGTH bytes for each request in the file, performed or
- * not.
+/* Runs file as a bench file: 0, or 1 to 12 for the file, or 13 where out has fewer than CCS_RECORD_LENGTH bytes for each request in the file,
+ * performed or not.
  * 0: out has one record for each Swap done, in Swap order, from its first byte on, and every later byte is as it was; the counts are those of the
  * run. A refusal: out is as it was, and all counts are 0. */
 uint8_t ccs_run(const uint8_t *file, size_t file_length, uint8_t *out, size_t out_length, uint32_t counts[CCS_RUN_COUNTS]);

@@ -1,4 +1,4 @@
-/* Writes a bench file of two threads, runs it under a schedule, and prints what each call cost. */
+/* Writes a bench file of two threads, runs it under a schedule, and prints from which entry to which each call went and what it cost. */
 #include "ccs.h"
 
 #include <stdio.h>
@@ -42,7 +42,10 @@ int main(void)
     }
     for (uint32_t i = 0; i < told[CCS_RUN_RECORDS]; i++) {
         const uint8_t *call = records + i * CCS_RECORD_LENGTH;
-        printf("thread %d, served by thread %d: %u remote references\n", call[0], call[3], number(call + 8));
+        printf("thread %d, served by thread %d, from entry %u", call[0], call[3], number(call + 16));
+        if (call[12])
+            printf(" to %u", number(call + 20));
+        printf(": %u remote references\n", number(call + 8));
     }
 
     uint8_t text[CCS_ENOUGH_FOR_LISTING];

@@ -2,7 +2,7 @@
 //!
 //! Each function takes any bytes and any lent buffer, and answers a result or a [`Refusal`]. A refusal leaves the buffer as it was;
 //! otherwise what is written stands from the buffer's first byte on, and every later byte is as it was. The functions may be
-//! called from several threads at once. [`run`] needs 32 KiB of stack, [`list`] 64 KiB.
+//! called from several threads at once. [`run`] needs 40 KiB of stack, [`list`] 80 KiB.
 //!
 //! What the library promises of its answers is proved, for every file and every schedule; this package, the linker and the
 //! compiler are not part of that proof. The file's layout and the record of a call stand in `include/ccs.h`; the repository's README
@@ -50,13 +50,13 @@ mod border {
 }
 
 /// The bytes of one record in the buffer of [`run`].
-pub const RECORD_LENGTH: usize = 16;
+pub const RECORD_LENGTH: usize = 24;
 
 /// So many bytes hold the records of every file.
 pub const ENOUGH_FOR_RECORDS: usize = 256 * RECORD_LENGTH;
 
 /// So many bytes hold the listing of every file.
-pub const ENOUGH_FOR_LISTING: usize = 23_677;
+pub const ENOUGH_FOR_LISTING: usize = 29_309;
 
 /// What a file that is accepted holds, by the numbers of its layout.
 #[derive(Clone, Copy, Debug, PartialEq, Eq)]
@@ -156,9 +156,9 @@ pub fn judge(file: &[u8]) -> Result<Judged, Refusal> {
 /// assert_eq!((counts.records, counts.turns, counts.remote), (1, 1, 9));
 /// let record = ccs::records(&out, &counts).next().unwrap();
 /// assert_eq!(record.serving.unwrap().answer, ccs::Answer::Value(0));
-/// assert!(record.returned);
-/// assert_eq!(out[16..], [0xEE; 16]);
-/// assert_eq!(ccs::run(&file, &mut out[..15]), Err(ccs::Refusal::Buffer));
+/// assert_eq!((record.began, record.returned), (0, Some(20)));
+/// assert_eq!(out[ccs::RECORD_LENGTH..], [0xEE; 8]);
+/// assert_eq!(ccs::run(&file, &mut out[..ccs::RECORD_LENGTH - 1]), Err(ccs::Refusal::Buffer));
 /// ```
 pub fn run(file: &[u8], out: &mut [u8]) -> Result<Counts, Refusal> {
     let mut numbers = [0; 5];
@@ -260,7 +260,7 @@ mod tests {
     #[test]
     fn numbers_of_a_refusal_are_0() {
         let file = [0x43, 0x43, 0x53, 1, 0, 2, 1, 1, 0, 1, 2, 5, 0, 0, 0, 0, 0];
-        let mut out = [0xEE; 15];
+        let mut out = [0xEE; RECORD_LENGTH - 1];
         for length in 0..=file.len() {
             let mut numbers = [usize::MAX; 6];
             // SAFETY: as in `judge`, `run` and `list`.
@@ -279,11 +279,12 @@ mod tests {
             assert_eq!((listed, written), (13, 0));
         }
         let mut written = usize::MAX;
-        let (row, at) = (file.as_ptr(), out.as_mut_ptr());
+        let (row, at, lent) = (file.as_ptr(), out.as_mut_ptr(), out.len());
         // SAFETY: as in `write`.
-        let refusal =
-            unsafe { border::ccs_write(2, 1, 0, 0, row, 1, row, 0, row, 0, at, 15, &mut written) };
+        let refusal = unsafe {
+            border::ccs_write(2, 1, 0, 0, row, 1, row, 0, row, 0, at, lent, &mut written)
+        };
         assert_eq!((refusal, written), (6, 0));
-        assert_eq!(out, [0xEE; 15]);
+        assert_eq!(out, [0xEE; RECORD_LENGTH - 1]);
     }
 }

@@ -36,70 +36,86 @@ pub struct Record {
     pub serving: Option<Serving>,
     /// The call's remote references so far.
     pub remote: u32,
-    /// Whether the call has returned.
-    pub returned: bool,
+    /// The number of the entry that ran the call's line 1: its place in the whole schedule, from 0.
+    pub began: u32,
+    /// The number of the entry with which it returned, its line 11 or 21; none while it is open.
+    pub returned: Option<u32>,
 }
 
+/// An entry's number is below this: no schedule is longer.
+const ENTRIES: u32 = 32_768;
+
+/// Bytes 20 to 23 while the call is open.
+const OPEN: u32 = 4_294_967_295;
+
 impl Record {
-    /// The call that bytes are the record of; none if their fields contradict each other, which those of a run never do.
+    /// The call whose record these bytes are; none if their fields contradict each other, which those of a run never do.
     ///
     /// ```
-    /// let waiting = [0, 1, 255, 255, 0, 0, 0, 0, 4, 0, 0, 0, 0, 255, 255, 0];
+    /// let waiting = [
+    ///     0, 1, 255, 255, 0, 0, 0, 0, 4, 0, 0, 0, 0, 255, 255, 0, 21, 0, 0, 0, 255, 255, 255, 255,
+    /// ];
     /// let record = ccs::Record::read(&waiting).unwrap();
     /// assert_eq!((record.thread, record.request, record.remote), (0, 1, 4));
-    /// assert_eq!(record.serving, None);
+    /// assert_eq!((record.serving, record.began, record.returned), (None, 21, None));
     /// assert_eq!(ccs::Record::read(&[255; ccs::RECORD_LENGTH]), None);
     /// ```
     pub fn read(bytes: &[u8; RECORD_LENGTH]) -> Option<Record> {
-        let [thread, request, mark, server, v0, v1, v2, v3, r0, r1, r2, r3, returned, t0, t1, 0] =
-            *bytes
-        else {
+        let [thread, request, mark, server, ..] = *bytes;
+        let value = number(bytes, 4);
+        let turn = u16::from_le_bytes([bytes[13], bytes[14]]);
+        let began = number(bytes, 16);
+        if thread > 15 || request > 15 || bytes[15] != 0 || began >= ENTRIES {
             return None;
-        };
-        let value = u32::from_le_bytes([v0, v1, v2, v3]);
-        let turn = u16::from_le_bytes([t0, t1]);
-        let answer = match (mark, value) {
-            (0, 0) => Some(Answer::Done),
-            (1, value) => Some(Answer::Value(value)),
-            (2, 0) => Some(Answer::Empty),
-            (3, 0) => Some(Answer::Full),
-            (255, 0) => None,
-            _ => return None,
-        };
-        let serving = match (answer, server, turn) {
-            (Some(answer), 0..=15, 0..=65_534) => Some(Serving {
-                answer,
+        }
+        let serving = match (mark, value, server, turn) {
+            (255, 0, 255, 65_535) => None,
+            (_, _, 0..=15, 0..=65_534) => Some(Serving {
+                answer: answer(mark, value)?,
                 server,
                 turn,
             }),
-            (None, 255, 65_535) => None,
             _ => return None,
         };
-        let returned = match returned {
-            0 => false,
-            1 if serving.is_some() => true,
+        let returned = match (bytes[12], number(bytes, 20)) {
+            (0, OPEN) => None,
+            (1, entry) if serving.is_some() && began < entry && entry < ENTRIES => Some(entry),
             _ => return None,
         };
-        if thread > 15 || request > 15 {
-            return None;
-        }
         Some(Record {
             thread,
             request,
             serving,
-            remote: u32::from_le_bytes([r0, r1, r2, r3]),
+            remote: number(bytes, 8),
+            began,
             returned,
         })
     }
 }
 
-/// The records that [`run`](crate::run) left in a buffer, in Swap order.
+/// The answer of a mark and a value; none if they contradict each other.
+fn answer(mark: u8, value: u32) -> Option<Answer> {
+    match (mark, value) {
+        (0, 0) => Some(Answer::Done),
+        (1, value) => Some(Answer::Value(value)),
+        (2, 0) => Some(Answer::Empty),
+        (3, 0) => Some(Answer::Full),
+        _ => None,
+    }
+}
+
+/// The four bytes from a place on, low byte first.
+fn number(bytes: &[u8; RECORD_LENGTH], at: usize) -> u32 {
+    u32::from_le_bytes([bytes[at], bytes[at + 1], bytes[at + 2], bytes[at + 3]])
+}
+
+/// The records that [`run`](crate::run) left in a buffer, in Swap order. A call that returned before another began comes before it.
 ///
 /// ```
 /// // a counter, two threads that add 5 and 7; thread 0 runs alone
 /// let mut file = vec![0x43, 0x43, 0x53, 1, 0, 2, 2, 1, 0, 1, 2, 5, 0, 0, 0, 1, 2, 7, 0, 0, 0, 21, 0];
 /// file.resize(file.len() + 21, 0);
-/// let mut out = [0; 32];
+/// let mut out = [0; 2 * ccs::RECORD_LENGTH];
 /// let counts = ccs::run(&file, &mut out).unwrap();
 /// let records: Vec<ccs::Record> = ccs::records(&out, &counts).collect();
 /// assert_eq!(records.len(), 1);
@@ -109,4 +125,106 @@ pub fn records<'a>(out: &'a [u8], counts: &Counts) -> impl Iterator<Item = Recor
     out.chunks_exact(RECORD_LENGTH)
         .take(counts.records as usize)
         .map_while(|bytes| Record::read(bytes.try_into().ok()?))
+}
+
+#[cfg(test)]
+mod tests {
+    use super::*;
+
+    /// A call of thread 1, served by thread 0 in turn 2: begun with entry 258, returned with entry 515.
+    const RETURNED: [u8; RECORD_LENGTH] = [
+        1, 3, 1, 0, 7, 0, 0, 0, 10, 0, 0, 0, 1, 2, 0, 0, 2, 1, 0, 0, 3, 2, 0, 0,
+    ];
+    /// The same before it is served.
+    const WAITING: [u8; RECORD_LENGTH] = [
+        1, 3, 255, 255, 0, 0, 0, 0, 4, 0, 0, 0, 0, 255, 255, 0, 2, 1, 0, 0, 255, 255, 255, 255,
+    ];
+
+    /// The record with other bytes from a place on.
+    fn with(mut record: [u8; RECORD_LENGTH], at: usize, bytes: &[u8]) -> Option<Record> {
+        record[at..at + bytes.len()].copy_from_slice(bytes);
+        Record::read(&record)
+    }
+
+    fn with_entry(record: [u8; RECORD_LENGTH], at: usize, entry: u32) -> Option<Record> {
+        with(record, at, &entry.to_le_bytes())
+    }
+
+    #[test]
+    fn fields_are_read() {
+        let waiting = Record {
+            thread: 1,
+            request: 3,
+            serving: None,
+            remote: 4,
+            began: 258,
+            returned: None,
+        };
+        assert_eq!(Record::read(&WAITING), Some(waiting));
+        let returned = Record {
+            serving: Some(Serving {
+                answer: Answer::Value(7),
+                server: 0,
+                turn: 2,
+            }),
+            remote: 10,
+            returned: Some(515),
+            ..waiting
+        };
+        assert_eq!(Record::read(&RETURNED), Some(returned));
+        let served = Record {
+            returned: None,
+            ..returned
+        };
+        let mut open = RETURNED;
+        open[12] = 0;
+        assert_eq!(with_entry(open, 20, OPEN), Some(served));
+    }
+
+    /// Fields out of range, and those of a serving against each other.
+    #[test]
+    fn contradictions_are_no_record() {
+        for record in [RETURNED, WAITING] {
+            for place in [0, 1, 15] {
+                assert_eq!(with(record, place, &[16]), None);
+            }
+        }
+        for mark in [0, 2, 3, 4, 255] {
+            assert_eq!(with(RETURNED, 2, &[mark]), None);
+        }
+        for server in [16, 255] {
+            assert_eq!(with(RETURNED, 3, &[server]), None);
+        }
+        assert_eq!(with(RETURNED, 13, &[255, 255]), None);
+        for (place, bytes) in [(2, [1, 255]), (2, [255, 0]), (4, [1, 0]), (13, [0, 0])] {
+            assert_eq!(with(WAITING, place, &bytes), None);
+        }
+    }
+
+    /// Byte 12 and the numbers of the entries.
+    #[test]
+    fn contradictory_entries_are_no_record() {
+        for (record, other) in [(RETURNED, 0), (WAITING, 1)] {
+            for byte in [other, 2, 255] {
+                assert_eq!(with(record, 12, &[byte]), None);
+            }
+            for began in [ENTRIES, OPEN] {
+                assert_eq!(with_entry(record, 16, began), None);
+            }
+        }
+        for began in [515, 516] {
+            assert_eq!(with_entry(RETURNED, 16, began), None);
+        }
+        for ended in [0, 258, ENTRIES, OPEN] {
+            assert_eq!(with_entry(RETURNED, 20, ended), None);
+        }
+        for ended in [0, 515, ENTRIES, OPEN - 1] {
+            assert_eq!(with_entry(WAITING, 20, ended), None);
+        }
+        let mut unserved = WAITING;
+        unserved[12] = 1;
+        assert_eq!(with_entry(unserved, 20, 515), None);
+        assert!(with_entry(RETURNED, 20, ENTRIES - 1).is_some());
+        assert!(with_entry(WAITING, 16, ENTRIES - 1).is_some());
+    }
 }

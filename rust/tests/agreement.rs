@@ -111,12 +111,12 @@ fn read_and_laid(bytes: &[u8]) -> Vec<u8> {
     bytes
         .chunks_exact(RECORD_LENGTH)
         .flat_map(|bytes| {
-            laid(&Record::read(bytes.try_into().expect("so long")).expect("a record"))
+            laid(&Record::read(bytes.try_into().expect("a record's length")).expect("a record"))
         })
         .collect()
 }
 
-/// The bytes of a record, by document 01.
+/// The bytes of a record, by document 01 and request No. 1 of document 02.
 fn laid(record: &Record) -> [u8; RECORD_LENGTH] {
     let (mark, server, value, turn) = match record.serving {
         None => (255, 255, 0, 65_535),
@@ -134,8 +134,10 @@ fn laid(record: &Record) -> [u8; RECORD_LENGTH] {
     bytes[..4].copy_from_slice(&[record.thread, record.request, mark, server]);
     bytes[4..8].copy_from_slice(&value.to_le_bytes());
     bytes[8..12].copy_from_slice(&record.remote.to_le_bytes());
-    bytes[12] = record.returned.into();
+    bytes[12] = record.returned.is_some().into();
     bytes[13..15].copy_from_slice(&turn.to_le_bytes());
+    bytes[16..20].copy_from_slice(&record.began.to_le_bytes());
+    bytes[20..].copy_from_slice(&record.returned.unwrap_or(u32::MAX).to_le_bytes());
     bytes
 }
 
@@ -214,7 +216,7 @@ fn random_files() {
             Err(number) => refusals[usize::from(number)] += 1,
         }
         // with few bytes lent: the file's refusal comes before 13, and a refusal is listed if it fits
-        if let Err(number) = lent.runs(&file, random.below(200)) {
+        if let Err(number) = lent.runs(&file, random.below(12 * RECORD_LENGTH)) {
             refusals[13] += usize::from(number == 13);
         }
         let _ = lent.lists(&file, random.below(14));
@@ -251,6 +253,26 @@ fn full_objects() {
             assert!(full.count() > 20, "the object fills up");
         }
     }
+}
+
+/// A call at the end of the longest schedule, behind blanks: the highest numbers of entries.
+#[test]
+fn latest_call() {
+    let file = Given {
+        object: 2,
+        n: 2,
+        h: 1,
+        capacity: 0,
+        counts: vec![0, 1],
+        requests: vec![2, 5, 0, 0, 0],
+        schedule: [[0; 32_768 - 21].as_slice(), &[1; 21]].concat(),
+    }
+    .bytes();
+    Lent::new().agree(&file).expect("a file in range");
+    let mut out = [0; RECORD_LENGTH];
+    let counts = ccs::run(&file, &mut out).expect("enough bytes");
+    let record = ccs::records(&out, &counts).next().expect("a record");
+    assert_eq!((record.began, record.returned), (32_747, Some(32_767)));
 }
 
 #[test]
@@ -380,11 +402,11 @@ fn every_lent_length() {
         let given = Given::random(&mut random, 200);
         let file = given.bytes();
         let need = RECORD_LENGTH * given.calls();
-        for length in 0..=need + 20 {
+        for length in 0..=need + RECORD_LENGTH {
             assert_eq!(lent.runs(&file, length).is_err(), length < need);
         }
         let text = lent.lists(&file, LENT).expect("the listing fits");
-        for length in text.saturating_sub(40)..=text + 20 {
+        for length in text.saturating_sub(60)..=text + 20 {
             assert_eq!(lent.lists(&file, length).is_err(), length < text);
         }
         for length in file.len().saturating_sub(40)..=file.len() + 20 {

@@ -17,6 +17,12 @@ static void same(const char *name, size_t found, size_t expected)
     }
 }
 
+/* A record's number of four bytes, low byte first. */
+static uint32_t number(const uint8_t *at)
+{
+    return at[0] | (uint32_t)at[1] << 8 | (uint32_t)at[2] << 16 | (uint32_t)at[3] << 24;
+}
+
 /* A counter with two threads that add 5 and 7, h = 3, and 42 entries: thread 0, then thread 1. */
 static uint8_t file[65];
 static const size_t file_length = sizeof file;
@@ -99,12 +105,16 @@ static void accepted(void)
     same("behind the records", out[2 * CCS_RECORD_LENGTH], PATTERN);
     same("first thread", out[0], 0);
     same("second thread", out[CCS_RECORD_LENGTH], 1);
-    same("second value", out[CCS_RECORD_LENGTH + 4], 5);
+    same("second value", number(out + CCS_RECORD_LENGTH + 4), 5);
+    same("first begin", number(out + 16), 0);
+    same("first return", number(out + 20), 20);
+    same("second begin", number(out + CCS_RECORD_LENGTH + 16), 21);
+    same("second return", number(out + CCS_RECORD_LENGTH + 20), 41);
     same("records", counts[CCS_RUN_RECORDS], 2);
     same("turns", counts[CCS_RUN_TURNS], 2);
     same("blanks", counts[CCS_RUN_BLANKS], 0);
     same("spins", counts[CCS_RUN_SPINS], 0);
-    same("remote", counts[CCS_RUN_REMOTE], (size_t)out[8] + out[CCS_RECORD_LENGTH + 8]);
+    same("remote", counts[CCS_RUN_REMOTE], number(out + 8) + number(out + CCS_RECORD_LENGTH + 8));
     /* thread 0 alone runs its 21 entries and then has blanks; after 8 entries of thread 1, thread 0 runs 8 lines and spins for the other 26 entries */
     uint8_t other[sizeof file];
     memcpy(other, file, sizeof file);
@@ -114,6 +124,9 @@ static void accepted(void)
     memset(other + 23, 1, 8);
     same("run", ccs_run(other, file_length, out, sizeof out, counts), CCS_ACCEPTED);
     same("spins", counts[CCS_RUN_SPINS], 26);
+    same("spinning thread", out[CCS_RECORD_LENGTH], 0);
+    same("spinning begin", number(out + CCS_RECORD_LENGTH + 16), 8);
+    same("spinning return", number(out + CCS_RECORD_LENGTH + 20), 4294967295);
 }
 
 /* The most requests that a file has: their records fit, and would not in a byte less. */

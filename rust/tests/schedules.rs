@@ -1,11 +1,11 @@
-//! Every schedule of small files, and some of random files: the library beside the plain Rust implementation, and demand 3's claims on what the
-//! library returns, after every cut.
+//! Every schedule of small files, and some of random files: the library beside the plain Rust implementation, and the claims on what the library
+//! returns, after every cut.
 mod claims;
 mod inputs;
 mod plain;
 
 use ccs::{Counts, RECORD_LENGTH};
-use claims::{check_start, check_step, After};
+use claims::{check_start, check_step, After, RecordBytes};
 use inputs::{run_by_library, run_plainly, Given, Random};
 
 /// All schedules of so many entries or fewer are run, for two threads and for three.
@@ -21,7 +21,7 @@ const COMPLETING: usize = 50;
 struct Walk {
     given: Given,
     calls: usize,
-    cuts: Vec<(Counts, Vec<[u8; RECORD_LENGTH]>)>,
+    cuts: Vec<(Counts, Vec<RecordBytes>)>,
     checked: usize,
     returned: usize,
 }
@@ -44,7 +44,7 @@ impl Walk {
     }
 
     /// Runs the schedule so far by the library and by the plain implementation.
-    fn run(&self) -> (Counts, Vec<[u8; RECORD_LENGTH]>) {
+    fn run(&self) -> (Counts, Vec<RecordBytes>) {
         let file = self.given.bytes();
         let mut out = vec![0x5A; RECORD_LENGTH * self.calls];
         let mut plainly = out.clone();
@@ -70,7 +70,7 @@ impl Walk {
         (
             counts,
             records
-                .map(|bytes| bytes.try_into().expect("so long"))
+                .map(|bytes| bytes.try_into().expect("a record's length"))
                 .collect(),
         )
     }
@@ -78,6 +78,7 @@ impl Walk {
     fn after(&self, cut: usize) -> After<'_> {
         let (counts, records) = &self.cuts[cut];
         After {
+            schedule: &self.given.schedule[..cut],
             counts: *counts,
             records,
         }
@@ -92,7 +93,6 @@ impl Walk {
         let checked = check_step(
             &self.given.fields(),
             &self.after(last - 1),
-            entry,
             &self.after(last),
         );
         if let Err(claim) = checked {

@@ -2,3 +2,4 @@ pub mod Examples
 pub mod InPlace
 pub mod Putting
 pub mod Service
+pub mod Spelled

@@ -2,25 +2,27 @@
 use Prim.Native.Nat.{ℕ, zero, suc, _*_, _≤_, _<_}
 use native.Mathlib.Omega.{arith}
 use mathlib.Core.Path.{_≡_, refl, sym, ap, _∙_}
-use mathlib.Core.Bool.{Bool, true, false, cond}
+use mathlib.Core.Bool.{Bool, true, false, cond, not}
 use mathlib.Core.List.{List, [], _∷_, map, map-map}
 use lib.ListN.{length, getD, take, drop, length-map, List·getD-append}
 use lib.Seq.{take-at}
-use lib.Dec.{ltb}
-use borrow.Author.Tests.{ltb-false}
+use lib.Dec.{ltb, eqb}
+use borrow.Author.Tests.{ltb-false, eq-eqb, ne-eqb}
 use Rattle.object.specs.declared.Kind.{Kind}
 use Rattle.object.specs.declared.Request.{Request}
 use Rattle.object.specs.Each.{Each, sumOf}
+use Rattle.object.proofs.Choice.{by-test}
 use Rattle.object.proofs.Each.{each-there, each-getD, each-map, map-each}
 use Rattle.bench_file.specs.Layout.{Fields, requestsOf, Judgement, accepted, refusedBy, judgeOf}
 use Rattle.bench_file.specs.Bytes.{Byte, RowInRange, InRange}
 use Rattle.bench_file.proofs.RoundTrip.{accepted-in-range}
-use Rattle.machine.specs.declared.Event.the-variants.{Swaps}
+use Rattle.machine.specs.declared.Event.the-variants.{Swaps, Returns}
 use Rattle.machine.specs.Sizes.{mostCalls}
 use Rattle.history.specs.Entries.{Entry, howMany}
-use Rattle.history.specs.Terms.{Call, noCall, callOf, swapOrder, recordLength, recordOf, recordsOf}
+use Rattle.history.specs.Terms.{Call, noCall, callOf, does, swapOrder, returned, noEntry, endedAt, recordLength, recordOf, recordsOf}
 use Rattle.history.proofs.Places.{map-at}
 use Rattle.history.proofs.Sums.{one-each}
+use Rattle.history.proofs.Times.{number-below, number-none}
 use Rattle.claims.specs.Entries.{historyOf}
 use Rattle.claims.specs.Result.{Result, refusedResult, resultAs}
 use Rattle.claims.proofs.Room.{all-swaps-asked, all-swaps-few}
@@ -65,11 +67,19 @@ module _ (f : Fields) (fits : InRange f) where
       rw (List·getD-append (map placeOf (swapOrder history)) _ 0 i (omega (arith, swapped)), map-at placeOf (swapOrder history) i noCall 0 there)
       (omega (arith, each-getD Placed (swapOrder history) i noCall placed there))
 
+  -- a call has returned exactly if it has an end
+  has-ended : (c : Call) → not (eqb (endedAt c history) noEntry) ≡ returned c history
+  has-ended c =
+      by-test (returned c history)
+      (λ z. rw (z, ne-eqb (endedAt c history) noEntry (λ e. omega (arith, number-below (does Returns c) history z, claim-whole f fits .entries-fit))))
+      (λ z. rw (z, eq-eqb (endedAt c history) noEntry (number-none (does Returns c) history z)))
+
   -- what is kept at its place gives its record
   record-there : (c : Call) → Placed c → recordAt (playedOf f .kept) (placeOf c) ≡ recordOf history c
   record-there c b =
       ap (keptRecord (callAt (placeOf c))) (tabled-at (λ p. keptOf history (callAt p)) mostCalls (placeOf c) unkept (omega arith))
       ∙ ap (λ (c : Call). keptRecord c (keptOf history c)) (call-there c (b .1))
+      ∙ rw (has-ended c)
 
   records-there : recordsIn (howMany Swaps history) (playedOf f .kept) (playedOf f .order) ≡ recordsOf history
   records-there =
@@ -107,21 +117,21 @@ module _ (lent : ℕ) where
 
   shows : (j : Judgement) → ((f : Fields) → j ≡ accepted f → InRange f) → Shows lent (playedIn lent j) (resultIn lent j)
   shows (refusedBy number) fits = refused-shows number
-  shows (accepted f) fits = by-test (ltb lent (recordLength * sumOf length (f .rows))) (ltb-false _ _)
+  shows (accepted f) fits = if-short (ltb lent (recordLength * sumOf length (f .rows))) (ltb-false _ _)
     where
-      by-test : (short : Bool) → (short ≡ false → recordLength * sumOf length (f .rows) ≤ lent)
+      if-short : (short : Bool) → (short ≡ false → recordLength * sumOf length (f .rows) ≤ lent)
           → Shows lent (cond short (unplayed 13) (playedOf f)) (cond short (refusedResult 13) (resultAs (accepted f)))
-      by-test true enough = refused-shows 13
-      by-test false enough = run-shows f (fits f refl) (enough refl)
+      if-short true enough = refused-shows 13
+      if-short false enough = run-shows f (fits f refl) (enough refl)
 
 -- a result that is not refused has the records of the run
 records-run : (lent : ℕ) (f : Fields) → resultIn lent (accepted f) .refusal ≡ 0 → resultIn lent (accepted f) .records ≡ recordsOf (historyOf f)
-records-run lent f = by-test (ltb lent (recordLength * requestsOf f))
+records-run lent f = if-short (ltb lent (recordLength * requestsOf f))
   where
-    by-test : (short : Bool) → cond short (refusedResult 13) (resultAs (accepted f)) .refusal ≡ 0
+    if-short : (short : Bool) → cond short (refusedResult 13) (resultAs (accepted f)) .refusal ≡ 0
         → cond short (refusedResult 13) (resultAs (accepted f)) .records ≡ recordsOf (historyOf f)
-    by-test true e = absurd (omega (arith, e))
-    by-test false e = refl
+    if-short true e = absurd (omega (arith, e))
+    if-short false e = refl
 
 -- the service: what was played gives its answer, and its records the buffer
 module _ (bytes old : List ℕ) (p : Played) (each : Each Byte bytes) (is : p ≡ playedIn (length old) (judgeOf bytes)) where

@@ -1,14 +1,16 @@
 -- The records of calls from what a run in place keeps of them.
 use Prim.Native.Nat.{ℕ}
+use mathlib.Core.Bool.{not}
 use mathlib.Core.List.{List, map}
 use lib.ListN.{getD, take}
-use Rattle.history.specs.Terms.{Call, recordBytes}
+use lib.Dec.{eqb}
+use Rattle.history.specs.Terms.{Call, noEntry, recordBytes}
 use Rattle.kept.specs.declared.Kept.{Kept}
 use Rattle.kept.specs.Kept.{callAt, unkept}
 
--- the record of a call
+-- the record of a call, which has returned exactly if it has an end
 abbrev pub keptRecord : Call → Kept → List ℕ
-keptRecord c k = recordBytes (c .thread .0) (c .request) (k .mark) (k .server) (k .value) (k .remote) (k .returned) (k .turn)
+keptRecord c k = recordBytes (c .thread .0) (c .request) (k .mark) (k .server) (k .value) (k .remote) (not (eqb (k .ended) noEntry)) (k .turn) (k .began) (k .ended)
 
 -- the record of the call that has a place, and so many records in Swap order
 abbrev pub recordAt : List Kept → ℕ → List ℕ

@@ -4,10 +4,12 @@ use state::Counts;
 ghost use Prim.Native.Nat.{ℕ, _*_, _≤_, _<_};
 ghost use mathlib.Core.Path.{_≡_};
 ghost use lib.ListN.{length, getD};
+ghost use lib.Dec.{eqb};
+ghost use mathlib.Core.Bool.{not};
 ghost use Rattle.machine.specs.Sizes.{mostCalls};
 ghost use Rattle.bench_file.specs.Bytes.{lowFirst};
 ghost use Rattle.step.specs.Entry.{oneIf};
-ghost use Rattle.history.specs.Terms.{recordLength};
+ghost use Rattle.history.specs.Terms.{recordLength, noEntry};
 ghost use Rattle.kept.specs.Kept.{callAt};
 ghost use Rattle.bench.specs.Promise.{Runs};
 ghost use Rattle.bench.specs.Records.{keptRecord, recordsIn};
@@ -34,11 +36,11 @@ fn low_first(number: u32) -> [u8; 4]
     ]
 }
 
-// Byte 12 of a record.
-fn returned_byte(returned: bool) -> u8
-    ensures { λ r. ⌜ r ≡ oneIf returned ⌝ }
+// Byte 12 of a record: whether the call has an end.
+fn returned_byte(ended: u32) -> u8
+    ensures { λ r. ⌜ r ≡ oneIf (not (eqb ended noEntry)) ⌝ }
 {
-    if returned { 1 } else { 0 }
+    if ended == kept::NO_ENTRY { 0 } else { 1 }
 }
 
 // The record of the call that has a place.
@@ -48,8 +50,10 @@ fn record_bytes(place: u16, kept: Kept) -> [u8; kept::RECORD_LENGTH]
 {
     let value = low_first(kept.value);
     let remote = low_first(kept.remote);
-    let returned = returned_byte(kept.returned);
+    let returned = returned_byte(kept.ended);
     let turn = low_first(kept.turn as u32);
+    let began = low_first(kept.began);
+    let ended = low_first(kept.ended);
     [
         (place / 16) as u8,
         (place % 16) as u8,
@@ -67,6 +71,14 @@ fn record_bytes(place: u16, kept: Kept) -> [u8; kept::RECORD_LENGTH]
         turn[0],
         turn[1],
         0,
+        began[0],
+        began[1],
+        began[2],
+        began[3],
+        ended[0],
+        ended[1],
+        ended[2],
+        ended[3],
     ]
 }
 

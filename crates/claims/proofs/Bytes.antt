@@ -1,18 +1,21 @@
--- A record has its length, in bytes. Assumes what each law says of thread, request and serving thread.
-use Prim.Native.Nat.{_<_}
+-- The bytes of a record: how many, and the numbers in them. Assumes what each law says of the call's own numbers.
+use Prim.Native.Nat.{ℕ, _^_, _≤_, _<_}
 use native.Mathlib.Omega.{arith}
+use mathlib.Core.Path.{_≡_}
 use mathlib.Core.Bool.{Bool, true, false}
 use mathlib.Core.List.{List}
 use Rattle.object.specs.declared.Answer.{Answer}
 use Rattle.object.specs.declared.Answer.the-variants.{Done, Value, Empty, Full}
 use Rattle.object.specs.Paper.{answerMark}
+use Rattle.bench_file.specs.Reading.{littleEndian}
 use Rattle.bench_file.specs.Bytes.{lowFirst, Byte}
+use Rattle.bench_file.proofs.Each.{low-value}
 use Rattle.machine.specs.declared.RetVal.{RetVal}
 use Rattle.machine.specs.declared.RetVal.the-variants.{NoAnswer, Answered}
 use Rattle.step.specs.Entry.{oneIf}
 use Rattle.history.specs.Entries.{Entry}
 use Rattle.claims.specs.Claims.{RecordSized}
-use Rattle.history.specs.Terms.{Call, servings, returned, shownOf, retMark, recordOf}
+use Rattle.history.specs.Terms.{Call, noTurn, servings, costOf, returned, noEntry, beganAt, endedAt, Shown, shownOf, retMark, retValue, recordOf, numberAt}
 
 -- an answer's mark is not that of none
 pub mark-below : (a : Answer) → answerMark a < 255
@@ -33,3 +36,39 @@ pub record-sized : (history : List Entry) (c : Call) → Byte (c .thread .0) →
     → RecordSized (recordOf history c)
 unfolding lowFirst
 record-sized history c thread request server = omega (arith, ret-byte (shownOf c (servings history) .ret), test-byte (returned c history))
+
+-- the numbers of a call's record are the call's, where they fit their bytes
+module _ (history : List Entry) (c : Call) where
+  abbrev w : Shown
+  w = shownOf c (servings history)
+
+  abbrev number : ℕ → ℕ → ℕ
+  number from width = numberAt (recordOf history c) from width
+
+  pub server-byte : number 3 1 ≡ w .server .0
+  unfolding lowFirst littleEndian
+  server-byte = omega arith
+
+  pub returned-byte : number 12 1 ≡ oneIf (returned c history)
+  unfolding lowFirst littleEndian
+  returned-byte = omega arith
+
+  pub value-bytes : retValue (w .ret) < 2 ^ 32 → number 4 4 ≡ retValue (w .ret)
+  unfolding lowFirst
+  value-bytes fits = low-value 4 (retValue (w .ret)) fits
+
+  pub cost-bytes : costOf c history < 2 ^ 32 → number 8 4 ≡ costOf c history
+  unfolding lowFirst
+  cost-bytes fits = low-value 4 (costOf c history) fits
+
+  pub turn-bytes : w .turn ≤ noTurn → number 13 2 ≡ w .turn
+  unfolding lowFirst
+  turn-bytes fits = low-value 2 (w .turn) (omega arith)
+
+  pub began-bytes : beganAt c history ≤ noEntry → number 16 4 ≡ beganAt c history
+  unfolding lowFirst
+  began-bytes fits = low-value 4 (beganAt c history) (omega arith)
+
+  pub ended-bytes : endedAt c history ≤ noEntry → number 20 4 ≡ endedAt c history
+  unfolding lowFirst
+  ended-bytes fits = low-value 4 (endedAt c history) (omega arith)

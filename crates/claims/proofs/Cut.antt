@@ -3,7 +3,7 @@ use Prim.Native.Nat.{ℕ, zero, suc, _+_, _≤_, _<_}
 use native.Mathlib.Nat.{min-le-right}
 use native.Mathlib.Omega.{arith}
 use mathlib.Core.Path.{_≡_, refl, ap}
-use mathlib.Core.List.{List, [], _∷_, reverseAux, reverse}
+use mathlib.Core.List.{List, [], _∷_, map, reverseAux, reverse}
 use lib.ListN.{length, take, length-take}
 use Rattle.bench_file.specs.Layout.{Fields}
 use Rattle.object.specs.Each.{Each}
@@ -20,6 +20,12 @@ unfolding entriesFrom
 entries-cut s zero schedule = refl
 entries-cut s (suc j) [] = refl
 entries-cut s (suc j) (t ∷ schedule) = ap (λ (l : List Entry). entryOf s (threadId t) ∷ l) (entries-cut (entered s (threadId t)) j schedule)
+
+-- each entry is of the thread that the schedule names in its place
+pub entries-named : (s : State) (schedule : List ℕ) → map (λ (e : Entry). e .thread .0) (entriesFrom s schedule) ≡ schedule
+unfolding entriesFrom
+entries-named s [] = refl
+entries-named s (t ∷ schedule) = ap (λ (l : List ℕ). t ∷ l) (entries-named (entered s (threadId t)) schedule)
 
 pub stopped : (f : Fields) (j : ℕ) → entriesOf (cut j f) ≡ take j (entriesOf f)
 stopped f j = entries-cut (startOf f) j (f .schedule)

@@ -49,15 +49,16 @@ use Rattle.invariant.proofs.Threads.{serving, last-points}
 use Rattle.invariant.proofs.Data.{data-kept, no-line-out, served-asks, answer-there}
 use Rattle.history.specs.Entries.{Entry, threadId, happened, is, Is, remoteIn}
 use Rattle.history.specs.Copies.{RemoteAsSaid}
-use Rattle.history.specs.Terms.{Serving, callOf, callAssigned, noCall, swapOrder, servingOf, servings}
+use Rattle.history.specs.Terms.{Serving, returned, callOf, callAssigned, noCall, swapOrder, servingOf, servings}
 use Rattle.history.specs.Method.{Moves, waiting, leaving}
-use Rattle.history.specs.History.{SwapOrder, Turns, Calls}
+use Rattle.history.specs.History.{SwapOrder, Turns, Calls, Times}
 use Rattle.history.proofs.Places.{map-at}
 use Rattle.history.proofs.Told.{is-so, is-not, by-event, goes}
 use Rattle.history.proofs.Shown.{applied as all-served}
 use Rattle.history.proofs.Swaps.{of-last, serves-next, swaps-kept}
 use Rattle.history.proofs.Turns.{turns-kept, applies-combining}
 use Rattle.history.proofs.Calls.{still-open, calls-kept}
+use Rattle.history.proofs.Times.{times-kept}
 use Rattle.claims.specs.Entries.{entryOf}
 use Rattle.claims.specs.Claims.{askedOf, askedBy, earlyBlank, outsideTurn, afterReturn}
 use Rattle.claims.proofs.CopiesSaid.{CopiesSaid, copies-kept, remote-said}
@@ -91,6 +92,7 @@ pub record Layers (f : Fields) (s : State) (past : List Entry) : Type 0 where
   pub swaps : SwapOrder (s .n) (seenOf (viewOf s)) (positionsOf ledger) past
   pub turns : Turns (s .n) (s .h) (seenOf (viewOf s)) (positionsOf ledger) past
   pub calls : Calls Bounded (s .n) (seenOf (viewOf s)) (positionsOf ledger) cost past
+  pub times : Times (s .n) (seenOf (viewOf s)) (positionsOf ledger) past
   pub copies : CopiesSaid (s .n) (s .copies) past
   pub said : RemoteAsSaid past
   -- a thread has as many requests as its row of the file
@@ -294,11 +296,12 @@ module _ (f : Fields) (fits : InRange f) (s : State) (past : List Entry) (t : Th
       (λ z. absurd (omega (arith, rw (does .stands, z) at p)))
       (λ z. rw remote-same (returns-21 few copied (now .control) (now .remote) does z))
 
+  -- an entry is of a call that has not returned
+  open-yet : (Is Blank e → ⊥) → returned (callOf e past) past ≡ false
+  open-yet = still-open Bounded {cost′ = costs} moved (now .swaps) (now .turns) (now .calls) spends (λ u z. upd-other _ (t .0) _ u z) returns-answer by-another by-itself
+
   over-next : happened afterReturn (e ∷ past) ≡ false
-  over-next =
-      by-event e Blank (λ q. rw (is-so e Blank q) (now .over)) λ q.
-      let open-call = still-open Bounded {cost′ = costs} moved (now .swaps) (now .turns) (now .calls) spends (λ u z. upd-other _ (t .0) _ u z) returns-answer by-another by-itself q in
-      rw (open-call, and-false) (now .over)
+  over-next = by-event e Blank (λ q. rw (is-so e Blank q) (now .over)) (λ q. rw (open-yet q, and-false) (now .over))
 
   pub layers-next : Layers f after (e ∷ past)
   layers-next = record {
@@ -311,6 +314,7 @@ module _ (f : Fields) (fits : InRange f) (s : State) (past : List Entry) (t : Th
     swaps = swaps-kept moved (now .swaps);
     turns = turns-kept past moved (now .turns);
     calls = calls-kept Bounded moved (now .swaps) (now .turns) (now .calls) spends (λ u z. upd-other _ (t .0) _ u z) returns-answer by-another by-itself;
+    times = times-kept moved (now .swaps) open-yet (now .times);
     copies = copies-kept s t past (going .sound) below (now .copies);
     said = (remote-said s t past (going .sound) below (now .copies), now .said);
     rows = λ u b. count-kept (now .control) does (tells-of s t) u ∙ now .rows u b;

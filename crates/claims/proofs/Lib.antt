@@ -4,8 +4,10 @@ pub mod Counted
 pub mod Cut
 pub mod Filled
 pub mod Layers
+pub mod Left
 pub mod Marked
 pub mod Meets
+pub mod Numbered
 pub mod Parts
 pub mod Room
 pub mod Run

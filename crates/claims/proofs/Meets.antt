@@ -23,7 +23,7 @@ use Rattle.invariant.proofs.Noted.{notes, at-swap, at-kept, node-kept}
 use Rattle.invariant.proofs.Seats.{positions-apart, tail-node, now, known}
 use Rattle.invariant.proofs.Threads.{queued-from, at-below, one-at-turn, serving, last-points, line-most}
 use Rattle.history.specs.Entries.{Entry, Is}
-use Rattle.history.specs.Method.{Goes, blank, begins, swaps, turns, applies, ends, helped, leaves, other, Moves, waiting, combining, leaving}
+use Rattle.history.specs.Method.{Goes, blank, begins, swaps, turns, applies, ends, helped, leaves, other, Moves, idle, waiting, combining, leaving}
 use Rattle.history.proofs.Told.{told}
 use Rattle.claims.proofs.Seen.{phaseOf, seenOf, positionsOf}
 
@@ -41,6 +41,17 @@ phases k = record {
   turn = λ z y. rw (lt-leb k 0 (omega arith), lt-leb k 5 (omega arith), lt-leb k 12 (omega arith), le-leb k 20 y);
   late = λ z. rw (lt-leb k 0 (omega arith), lt-leb k 5 (omega arith), lt-leb k 12 (omega arith), lt-leb k 20 (omega arith));
 }
+
+-- an idle thread runs no line next
+pub idle-line : (k : ℕ) → phaseOf k ≡ idle → k ≡ 0
+idle-line k q =
+    let f = phases k in
+    by-order 0 k
+    (λ v.
+    by-order k 6 (λ z. absurd (omega (arith, rw (lt-leb k 0 v, le-leb k 5 (omega arith)) at q))) λ y.
+    by-order k 13 (λ z. absurd (omega (arith, f .wait y (omega arith)))) λ x.
+    by-order k 21 (λ z. absurd (omega (arith, f .turn x (omega arith)))) (λ z. absurd (omega (arith, f .late z))))
+    (λ v. omega arith)
 
 pub queued-line : (k : ℕ) → waiting ≤ phaseOf k → 6 ≤ k
 queued-line k q = by-order k 6 (λ z. absurd (omega (arith, phases k .low z))) (λ z. z)

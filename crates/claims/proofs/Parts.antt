@@ -2,9 +2,12 @@
 use Prim.Native.Nat.{ℕ, _≤_, _<_, _^_}
 use native.Mathlib.Omega.{arith}
 use mathlib.Core.Path.{_≡_, sym, ap, _∙_}
+use mathlib.Core.Bool.{true}
 use mathlib.Core.List.{List, [], _∷_, map, map-map}
 use lib.ListN.{length, getD, take, drop, length-map}
 use lib.Seq.{getD-take}
+use lib.Dec.{ltb}
+use borrow.Author.Tests.{lt-ltb, le-ltb}
 use Rattle.object.specs.declared.Request.{Request}
 use Rattle.object.specs.declared.Request.the-variants.{Put}
 use Rattle.object.specs.declared.Answer.{Answer}
@@ -13,6 +16,7 @@ use Rattle.object.specs.Paper.{requestValue, answerMark, answerValue}
 use Rattle.object.specs.Plain.{fresh}
 use Rattle.object.specs.Each.{Each}
 use Rattle.object.proofs.Each.{each-there, each-take, each-map, each-getD-or, each-all, each-mapped, each-unmapped}
+use Rattle.object.proofs.Choice.{by-equal, by-order, by-test}
 use Rattle.object.proofs.Fitting.{answers-fit}
 use Rattle.bench_file.specs.Layout.{Fields}
 use Rattle.bench_file.specs.Bytes.{lowFirst, Byte, InRange}
@@ -20,21 +24,24 @@ use Rattle.bench_file.proofs.RoundTrip.{request-fits}
 use Rattle.machine.specs.declared.Announced.the-variants.{NoRequest, Asked}
 use Rattle.machine.specs.declared.RetVal.{RetVal}
 use Rattle.machine.specs.declared.RetVal.the-variants.{NoAnswer, Answered}
-use Rattle.machine.specs.declared.Event.the-variants.{Swaps, TurnBegins, Applies}
+use Rattle.machine.specs.declared.Event.{Event}
+use Rattle.machine.specs.declared.Event.the-variants.{CallBegins, Swaps, TurnBegins, Applies, Returns}
 use Rattle.state.specs.declared.State.{State}
 use Rattle.state.proofs.RangeFacts.{state-fits}
+use Rattle.step.specs.Entry.{oneIf}
 use Rattle.step.proofs.Outcome.{thread-fits}
 use Rattle.invariant.specs.View.{viewOf}
 use Rattle.invariant.proofs.Feeding.{answers-take}
 use Rattle.history.specs.Entries.{Entry, threadId, is, howMany}
-use Rattle.history.specs.Terms.{Call, Serving, Shown, noThread, noCall, noTurn, swapOrder, swapAt, servings, shown, unshown, shownOf, retMark, retValue, recordsOf, recordOf, costOf, servingOf, callOf}
-use Rattle.history.specs.History.{Settled}
+use Rattle.history.specs.Terms.{Call, Serving, Shown, noThread, noCall, noTurn, does, swapOrder, swapAt, servings, shown, unshown, shownOf, retMark, retValue, numberAt, recordsOf, recordOf, costOf, returned, noEntry, numberOf, beganAt, swappedAt, endedAt, precedes, servingOf, callOf}
+use Rattle.history.specs.History.{Settled, SwapTime}
 use Rattle.history.proofs.Places.{map-at}
 use Rattle.history.proofs.Shown.{record-at, applied, shown-each, shown-at, shown-none}
 use Rattle.history.proofs.Sums.{one-each, cost-fits, tests-few, servings-few}
+use Rattle.history.proofs.Times.{number-below, number-none, number-most, by-numbers}
 use Rattle.history.proofs.Turns.{one-combiner}
-use Rattle.claims.specs.Claims.{RecordSized, ReturnedCall, Claimed, HasAnswer, plainAnswers, askedOf, askedBy}
-use Rattle.claims.proofs.Bytes.{mark-below, record-sized}
+use Rattle.claims.specs.Claims.{RecordSized, ReturnedCall, Timed, Earlier, Claimed, HasAnswer, plainAnswers, askedOf, askedBy}
+use Rattle.claims.proofs.Bytes.{mark-below, record-sized, server-byte, returned-byte, turn-bytes, began-bytes, ended-bytes}
 use Rattle.claims.proofs.Layers.{Layers, Bounded, jobsOf}
 use Rattle.claims.proofs.Meets.{one-turn}
 use Rattle.claims.proofs.Run.{Going}
@@ -144,6 +151,66 @@ module _ (f : Fields) (fits : InRange f) (s : State) (history : List Entry) (goi
       let served : Each Fits (map (λ (w : Serving). w .answer) (servings history)) = rw (now .answered) given in
       shown-each (λ (w : Shown). Fits (w .ret)) (omega arith) c (servings history) (each-unmapped Fits (λ (w : Serving). w .answer) (servings history) served)
 
+  -- the calls in time
+  timed : (i : ℕ) → i < howMany Swaps history → Timed history (swapAt history i)
+  timed i b =
+      let c = swapAt history i in
+      let o = now .times .swapped i noCall (omega (arith, swaps-done)) in
+      record {
+        begins = o .began;
+        swaps = o .done;
+        ends = λ z. (o .ended z, number-below (does Returns c) history z);
+        open-ended = number-none (does Returns c) history;
+      }
+
+  -- and the numbers in their records
+  number-fits : (c : Call) (event : Event) → numberOf event c history ≤ noEntry
+  number-fits c event = number-most (does event c) history (going .short)
+
+  in-record : (from width : ℕ) (number : Call → ℕ) → ((c : Call) → numberAt (recordOf history c) from width ≡ number c) → (i : ℕ) → i < howMany Swaps history
+      → numberAt (getD (recordsOf history) i []) from width ≡ number (swapAt history i)
+  in-record from width number of-call i b =
+      ap (λ (bytes : List ℕ). numberAt bytes from width) (record-at history i noCall (swap-there i b)) ∙ of-call (swapAt history i)
+
+  began : (i : ℕ) → i < howMany Swaps history → numberAt (getD (recordsOf history) i []) 16 4 ≡ beganAt (swapAt history i) history
+  began = in-record 16 4 (λ c. beganAt c history) (λ c. began-bytes history c (number-fits c CallBegins))
+
+  ended : (i : ℕ) → i < howMany Swaps history → numberAt (getD (recordsOf history) i []) 20 4 ≡ endedAt (swapAt history i) history
+  ended = in-record 20 4 (λ c. endedAt c history) (λ c. ended-bytes history c (number-fits c Returns))
+
+  turn-fits : (c : Call) → shownOf c (servings history) .turn ≤ noTurn
+  turn-fits c = shown-each (λ (w : Shown). w .turn ≤ noTurn) (omega arith) c (servings history) (servings-few history (going .short))
+
+  -- the Swap of a call that returned before another began came before the other's
+  precedence : (c : Call) (k : ℕ) → k < howMany Swaps history → precedes c (swapAt history k) history ≡ true → Earlier history c k
+  precedence c k b z =
+      let o = now .times .ordered c (swapAt history k) z in
+      let mine = now .calls .settled c (o .returned) in
+      let inside : mine .position < now .ledger .s = omega (arith, mine .applied, now .control .order .applied) in
+      let time : SwapTime history c = rw (mine .call noCall) at (now .times .swapped (mine .position) noCall inside) in
+      let less : swappedAt c history < swappedAt (swapAt history k) history = omega (arith, time .ended (o .returned), o .numbers, timed k b .begins) in
+      by-order (mine .position) k (λ before. record { position = mine .position; before = before; call = mine .call noCall })
+      (λ behind.
+      by-equal k (mine .position)
+      (λ same. let its : swapAt history k ≡ c = rw same (mine .call noCall) in absurd (omega (arith, less, ap (λ (c : Call). swappedAt c history) its)))
+      (λ other. absurd (omega (arith, less, rw (mine .call noCall) at (now .times .in-time k (mine .position) noCall (omega arith) inside)))))
+
+  as-numbered : (c : Call) (k : ℕ) → k < howMany Swaps history → precedes c (swapAt history k) history ≡ ltb (endedAt c history) (beganAt (swapAt history k) history)
+  as-numbered c k b =
+      let d = swapAt history k in
+      by-order (endedAt c history) (beganAt d history)
+      (λ less. by-numbers c d history (going .short) (omega (arith, timed k b .begins, timed k b .swaps)) less ∙ sym (lt-ltb (endedAt c history) (beganAt d history) less))
+      (λ most.
+      by-test (precedes c d history) (λ z. absurd (omega (arith, now .times .ordered c d z .numbers)))
+      (λ z. z ∙ sym (le-ltb (endedAt c history) (beganAt d history) most)))
+
+  by-records : (i k : ℕ) → i < howMany Swaps history → k < howMany Swaps history
+      → numberAt (getD (recordsOf history) i []) 20 4 < numberAt (getD (recordsOf history) k []) 16 4 → i < k
+  by-records i k b b′ z =
+      let less : endedAt (swapAt history i) history < beganAt (swapAt history k) history = omega (arith, ended i b, began k b′) in
+      let o = precedence (swapAt history i) k b′ (as-numbered (swapAt history i) k b′ ∙ lt-ltb _ _ less) in
+      by-order (o .position) i (λ low. absurd (now .swaps .once (o .position) i noCall low (omega (arith, swaps-done)) (o .call))) (λ high. omega (arith, o .before))
+
   pub claim : Claimed f history
   claim = record {
     of-the-file = of-the-file;
@@ -161,14 +228,26 @@ module _ (f : Fields) (fits : InRange f) (s : State) (history : List Entry) (goi
     shows-none = λ i a b.
         record-shows history i noCall unshown (swap-there i b)
         (shown-none (now .swaps) (now .control .order .applied) i noCall (omega (arith, requests-applied)) (omega (arith, swaps-done)));
+    server = in-record 3 1 (λ c. shownOf c (servings history) .server .0) (server-byte history);
+    turn = in-record 13 2 (λ c. shownOf c (servings history) .turn) (λ c. turn-bytes history c (turn-fits c));
     value-fits = value-fits;
     one-combiner = λ t u p q. ap threadId (one-combiner (one-turn (now .control)) (now .turns) (t .0) (u .0) p q);
     combiner-applies = now .by-combiner;
     at-most-h = λ turn. omega (arith, now .turns .most turn, going .h);
     turns-fit = omega (arith, tests-few (is TurnBegins) history, going .short);
-    turn-fits = λ c. shown-each (λ (w : Shown). w .turn ≤ noTurn) (omega arith) c (servings history) (servings-few history (going .short));
+    turn-fits = turn-fits;
     settled = λ c z. settles c (now .calls .settled c z);
     cost = cost;
     cost-fits = cost-fits history (going .counted .few) (going .short);
     remote = now .said;
+    began = began;
+    ended = ended;
+    timed = timed;
+    has-returned = in-record 12 1 (λ c. oneIf (returned c history)) (returned-byte history);
+    entries-fit = omega (arith, going .short);
+    numbers-fit = number-fits;
+    in-time = λ i k less b. now .times .in-time i k noCall less (omega (arith, swaps-done));
+    precedence = precedence;
+    as-numbered = as-numbered;
+    by-records = by-records;
   }

@@ -1,7 +1,7 @@
--- Demand 3 of document 01: one claim about the whole list of entries of a file's run. The entries are in Entries.antt, the terms in the crate `history`. Up to
--- `Holds` each definition reads the file and the entries alone; `Demand3` ties them to the machine's steps and counts.
--- The parts: 1 what is served, 2 the records, 3 the combiner, 4 turns, 5 remote references, 6 no refusal.
-use Prim.Native.Nat.{ℕ, _+_, _*_, _≤_, _<_, _^_}
+-- Demand 3 of document 01, and the precedence of request No. 1: one claim about the whole list of entries of a file's run. The entries are in Entries.antt, the terms in the crate `history`. Up to
+-- `Holds` each definition reads the file and the entries alone; `Demand3` ties them to the machine.
+-- The parts: 1 what is served, 2 the records, 3 the combiner, 4 turns, 5 remote references, 6 no refusal, 7 when calls began and returned.
+use Prim.Native.Nat.{ℕ, suc, _+_, _-_, _*_, _≤_, _<_, _^_}
 use mathlib.Core.Path.{_≡_}
 use mathlib.Core.Bool.{Bool, true, false, not, _&&_}
 use mathlib.Core.List.{List, [], _∷_, map, reverse}
@@ -19,13 +19,14 @@ use Rattle.bench_file.specs.Bytes.{lowFirst, Byte, InRange}
 use Rattle.machine.specs.declared.ThreadId.{ThreadId}
 use Rattle.machine.specs.declared.Announced.the-variants.{Asked}
 use Rattle.machine.specs.declared.RetVal.the-variants.{Answered}
+use Rattle.machine.specs.declared.Event.{Event}
 use Rattle.machine.specs.declared.Event.the-variants.{Blank, Swaps, TurnBegins, Applies}
 use Rattle.state.specs.declared.State.{State}
-use Rattle.step.specs.Entry.{zeroThread}
+use Rattle.step.specs.Entry.{oneIf, zeroThread}
 use Rattle.step.specs.Steps.{stepsOf}
 use Rattle.history.specs.Entries.{Entry, happened, is, howMany}
 use Rattle.history.specs.Copies.{RemoteAsSaid}
-use Rattle.history.specs.Terms.{Call, begunBy, callOf, swapOrder, swapAt, noTurn, turnOfCall, combines, Serving, servings, servedIn, costOf, returned, combined, returns, Shown, shownOf, retMark, retValue, recordLength, recordsOf, countsOf}
+use Rattle.history.specs.Terms.{Call, begunBy, callOf, swapOrder, swapAt, noTurn, turnOfCall, combines, Serving, servings, servedIn, costOf, returned, combined, returns, Shown, shownOf, noEntry, numberOf, beganAt, swappedAt, endedAt, precedes, retMark, retValue, recordLength, numberAt, recordsOf, countsOf}
 use Rattle.claims.specs.Entries.{startOf, stateAfter, entriesOf, historyOf, cut}
 
 -- the file's requests of a thread, and its request of a call. Past these, where no call of a run is (`of-the-file`), it is put 0
@@ -67,6 +68,19 @@ pub record ReturnedCall (history : List Entry) (c : Call) (w : Shown) : Type 0 w
   pub by-another : eqb (w .server .0) (c .thread .0) ≡ false → costOf c history ≤ 10
   pub combining : combined c history ≡ true → costOf c history ≤ 5 * servedIn (turnOfCall c history) history + 7
 
+-- a call in time: it begins, does its Swap later, and ends later still exactly if it has returned
+pub record Timed (history : List Entry) (c : Call) : Type 0 where
+  pub begins : beganAt c history < swappedAt c history
+  pub swaps : swappedAt c history < length history
+  pub ends : returned c history ≡ true → (swappedAt c history < endedAt c history) × (endedAt c history < length history)
+  pub open-ended : returned c history ≡ false → endedAt c history ≡ noEntry
+
+-- a call stands earlier in Swap order than Swap k
+pub record Earlier (history : List Entry) (c : Call) (k : ℕ) : Type 0 where
+  pub position : ℕ
+  pub before : position < k
+  pub call : swapAt history position ≡ c
+
 -- the claim about a file and the history of its run, with s Swaps done and a requests applied
 pub record Holds (f : Fields) (history : List Entry) (s a : ℕ) : Type 0 where
   -- 1, of the calls: each Swap's is one of the file's, no call does two, no blank comes while a request is left, and no entry of a call once it has returned
@@ -79,14 +93,16 @@ pub record Holds (f : Fields) (history : List Entry) (s a : ℕ) : Type 0 where
   pub in-swap-order : map (λ (w : Serving). w .call) (servings history) ≡ take a (swapOrder history)
   pub requests : map (λ (w : Serving). w .req) (servings history) ≡ map (λ (c : Call). Asked (askedBy f c)) (take a (swapOrder history))
   pub answers : map (λ (w : Serving). w .answer) (servings history) ≡ map Answered (take a (plainAnswers f history))
-  -- 2: there are s records, of `recordLength` bytes. Record i names the thread and request of Swap i and shows the plain object's answer i, whose value has 32 bits, or
-  -- none from a on
+  -- 2: there are s records, of `recordLength` bytes. Record i names the thread and request of Swap i, shows the plain object's answer i, whose value has 32 bits, or
+  -- none from a on, and which thread served it in which turn
   pub records : length (recordsOf history) ≡ s
   pub bytes : Each RecordSized (recordsOf history)
   pub names : (i : ℕ) → i < s → take 2 (getD (recordsOf history) i []) ≡ swapAt history i .thread .0 ∷ swapAt history i .request ∷ []
   pub shows-answer : (i : ℕ) → i < a
       → HasAnswer (getD (recordsOf history) i []) (answerMark (getD (plainAnswers f history) i Empty)) (answerValue (getD (plainAnswers f history) i Empty))
   pub shows-none : (i : ℕ) → a ≤ i → i < s → HasAnswer (getD (recordsOf history) i []) 255 0
+  pub server : (i : ℕ) → i < s → numberAt (getD (recordsOf history) i []) 3 1 ≡ shownOf (swapAt history i) (servings history) .server .0
+  pub turn : (i : ℕ) → i < s → numberAt (getD (recordsOf history) i []) 13 2 ≡ shownOf (swapAt history i) (servings history) .turn
   pub value-fits : (c : Call) → retValue (shownOf c (servings history) .ret) < 2 ^ 32
   -- 3: at most one thread is combiner, and no other applies a request
   pub one-combiner : (t u : ThreadId) → combines t history ≡ true → combines u history ≡ true → t ≡ u
@@ -100,18 +116,51 @@ pub record Holds (f : Fields) (history : List Entry) (s a : ℕ) : Type 0 where
   pub cost : (i : ℕ) → i < s → take 4 (drop 8 (getD (recordsOf history) i [])) ≡ lowFirst 4 (costOf (swapAt history i) history)
   pub cost-fits : (c : Call) → costOf c history < 2 ^ 32
   pub remote : RemoteAsSaid history
+  -- 7: bytes 16 to 19 of a record are the number of the entry that its call began with, 20 to 23 of the one that it returned with, or of none while it is
+  -- open, as byte 12 says; no entry has the number of none
+  pub began : (i : ℕ) → i < s → numberAt (getD (recordsOf history) i []) 16 4 ≡ beganAt (swapAt history i) history
+  pub ended : (i : ℕ) → i < s → numberAt (getD (recordsOf history) i []) 20 4 ≡ endedAt (swapAt history i) history
+  pub has-returned : (i : ℕ) → i < s → numberAt (getD (recordsOf history) i []) 12 1 ≡ oneIf (returned (swapAt history i) history)
+  pub timed : (i : ℕ) → i < s → Timed history (swapAt history i)
+  pub entries-fit : length history < noEntry
+  pub numbers-fit : (c : Call) (event : Event) → numberOf event c history ≤ noEntry
+  -- Swap order is the order of the Swaps in time. A call that returned before another began stands earlier in it, if the other has run Swap; said of the numbers, and of the bytes of two records
+  pub in-time : (i k : ℕ) → i < k → k < s → swappedAt (swapAt history i) history < swappedAt (swapAt history k) history
+  pub precedence : (c : Call) (k : ℕ) → k < s → precedes c (swapAt history k) history ≡ true → Earlier history c k
+  pub as-numbered : (c : Call) (k : ℕ) → k < s → precedes c (swapAt history k) history ≡ ltb (endedAt c history) (beganAt (swapAt history k) history)
+  pub by-records : (i k : ℕ) → i < s → k < s → numberAt (getD (recordsOf history) i []) 20 4 < numberAt (getD (recordsOf history) k []) 16 4 → i < k
 
 -- the claim of a history by its own counts
 abbrev pub Claimed : Fields → List Entry → Type 0
 Claimed f history = Holds f history (howMany Swaps history) (howMany Applies history)
 
+-- an entry's number is its place in the schedule: a file's run stopped after k entries has not begun a call, or the call has not returned, and after one more it
+-- has
+pub record BeginsAt (f : Fields) (c : Call) (k : ℕ) : Type 0 where
+  pub not-yet : begunBy (c .thread) (historyOf (cut k f)) ≡ c .request
+  pub then : begunBy (c .thread) (historyOf (cut (suc k) f)) ≡ suc (c .request)
+
+pub record ReturnsAt (f : Fields) (c : Call) (k : ℕ) : Type 0 where
+  pub not-yet : returned c (historyOf (cut k f)) ≡ false
+  pub then : returned c (historyOf (cut (suc k) f)) ≡ true
+
+-- how many calls of a thread have returned, in a state: those that it has begun, but for the open one of a thread that is not idle
+abbrev pub leftBy : State → ThreadId → ℕ
+leftBy s t = let thread = getD (s .threads) (t .0) zeroThread in thread .begun - oneIf (not (eqb (thread .line) 0))
+
 -- the claim for the run stopped after j entries
 pub record Demand3 (f : Fields) (j : ℕ) (history : List Entry) (after : State) : Type 0 where
   pub claim : Claimed f history
-  -- 6: no entry is refused, so the run is the fold of the step; the machine's counts are those of the entries, and it has begun the calls that they begin
+  -- 6: no entry is refused, so the run is the fold of the step; the machine's counts are those of the entries, it has begun the calls that they begin, and those
+  -- have returned that it has left
   pub steps : stepsOf (startOf f) (take j (f .schedule)) ≡ record { refusal = 0; state = after }
   pub counts : after .counts ≡ countsOf history
   pub begun : (t : ThreadId) → t .0 < f .head .n → getD (after .threads) (t .0) zeroThread .begun ≡ begunBy t history
+  pub closed : (c : Call) → c .thread .0 < f .head .n → returned c history ≡ ltb (c .request) (leftBy after (c .thread))
+  -- there is one entry for each of the schedule's first j, in their order, and the numbers of a call's entries are their places
+  pub entries : map (λ (e : Entry). e .thread .0) (reverse history) ≡ take j (f .schedule)
+  pub began-there : (c : Call) → c .request < begunBy (c .thread) history → BeginsAt f c (beganAt c history)
+  pub ended-there : (c : Call) → returned c history ≡ true → ReturnsAt f c (endedAt c history)
   -- it is the run of the file with its schedule cut to j, which is a file again
   pub stopped : historyOf (cut j f) ≡ history
   pub cut-file : InRange (cut j f)

@@ -1,14 +1,16 @@
--- The marked runs of document 01, 'Runs that touch a bound': the bytes of each file, and the whole result that they give.
+-- The marked runs of document 01, 'Runs that touch a bound', and three of request No. 1: the bytes of each file, and the whole result that they give.
 use Prim.Native.Nat.{ℕ}
+use mathlib.Core.Bool.{Bool, true, false}
 use mathlib.Core.List.{List, [], _∷_, _++_}
 use lib.ListN.{replicate}
 use Rattle.object.specs.declared.Kind.{Kind}
 use Rattle.object.specs.declared.Kind.the-variants.{Queue, Stack, Counter}
 use Rattle.object.specs.declared.Request.{Request}
 use Rattle.object.specs.declared.Request.the-variants.{Put, Take, Add}
-use Rattle.bench_file.specs.Bytes.{lowFirst, bytesOf}
+use Rattle.bench_file.specs.Bytes.{bytesOf}
 use Rattle.bench_file.specs.Examples.{sixtyFour}
 use Rattle.state.specs.declared.Counts.{Counts}
+use Rattle.history.specs.Terms.{recordBytes}
 use Rattle.claims.specs.Result.{Result, counted}
 
 -- the listing's words for a mark and for byte 12
@@ -27,17 +29,34 @@ full = 3
 abbrev pub none : ℕ
 none = 255
 
-abbrev pub stillOpen : ℕ
-stillOpen = 0
+abbrev pub stillOpen : Bool
+stillOpen = false
 
-abbrev pub hasReturned : ℕ
-hasReturned = 1
+abbrev pub hasReturned : Bool
+hasReturned = true
 
--- a record's bytes, from thread, request, mark, value, serving thread, turn, remote references and byte 12: the order of the listing. Where it
--- prints a hyphen the value is 0, the serving thread 255 and the turn 65,535
-abbrev pub listed : ℕ → ℕ → ℕ → ℕ → ℕ → ℕ → ℕ → ℕ → List ℕ
-listed thread request mark value server turn remote ended =
-    thread ∷ request ∷ mark ∷ server ∷ lowFirst 4 value ++ lowFirst 4 remote ++ ended ∷ lowFirst 2 turn ++ 0 ∷ []
+-- a record's bytes, from thread, request, mark, value, serving thread, turn, remote references, whether the call has returned, and the numbers of the entries
+-- that it began and ended with: the order of the listing. Where it prints a hyphen the value is 0, the serving thread 255, the turn 65,535 and the end 4,294,967,295
+abbrev pub listed : ℕ → ℕ → ℕ → ℕ → ℕ → ℕ → ℕ → Bool → ℕ → ℕ → List ℕ
+listed thread request mark value server turn remote over began ended = recordBytes thread request mark server value remote over turn began ended
+
+-- the first record of the 64-byte file, the record of its run cut to 5, and one with its own number in each byte, which is no run's
+abbrev pub served : List ℕ
+served = listed 0 0 value 0 0 0 9 hasReturned 0 20
+
+abbrev pub waiting : List ℕ
+waiting = listed 0 0 none 0 255 65535 4 stillOpen 0 4_294_967_295
+
+abbrev pub ownBytes : List ℕ
+ownBytes = listed 10 11 full 134_678_021 13 3_854 404_166_165 hasReturned 572_596_255 741_026_345
+
+-- these byte by byte
+unfoldable pub spelled : List (List ℕ)
+spelled =
+    (0 ∷ 0 ∷ 1 ∷ 0 ∷ 0 ∷ 0 ∷ 0 ∷ 0 ∷ 9 ∷ 0 ∷ 0 ∷ 0 ∷ 1 ∷ 0 ∷ 0 ∷ 0 ∷ 0 ∷ 0 ∷ 0 ∷ 0 ∷ 20 ∷ 0 ∷ 0 ∷ 0 ∷ [])
+    ∷ (0 ∷ 0 ∷ 255 ∷ 255 ∷ 0 ∷ 0 ∷ 0 ∷ 0 ∷ 4 ∷ 0 ∷ 0 ∷ 0 ∷ 0 ∷ 255 ∷ 255 ∷ 0 ∷ 0 ∷ 0 ∷ 0 ∷ 0 ∷ 255 ∷ 255 ∷ 255 ∷ 255 ∷ [])
+    ∷ (10 ∷ 11 ∷ 3 ∷ 13 ∷ 5 ∷ 6 ∷ 7 ∷ 8 ∷ 21 ∷ 22 ∷ 23 ∷ 24 ∷ 1 ∷ 14 ∷ 15 ∷ 0 ∷ 31 ∷ 32 ∷ 33 ∷ 34 ∷ 41 ∷ 42 ∷ 43 ∷ 44 ∷ [])
+    ∷ []
 
 -- the bytes of a file, and its result
 pub record Marked : Type 0 where
@@ -65,24 +84,35 @@ abbrev pub putAndTake : ℕ → ℕ → ℕ → List ℕ
 putAndTake h zeros ones =
     fileOf Queue 2 h 4 ((Put 7 ∷ []) ∷ (Take ∷ []) ∷ []) (replicate 8 0 ++ replicate 9 1 ++ replicate zeros 0 ++ replicate ones 1)
 
+-- counter, n = 2, h = 1; thread 0 adds 5, thread 1 adds 7
+abbrev pub fiveAndSeven : List ℕ → List ℕ
+fiveAndSeven schedule = fileOf Counter 2 1 0 ((Add 5 ∷ []) ∷ (Add 7 ∷ []) ∷ []) schedule
+
 -- in the order of document 01; the values of the third add and of the two puts and the stack's capacity are free there
 unfoldable pub markedRuns : List Marked
 markedRuns =
-    gives sixtyFour (counted 2 2 0 0 11) (listed 0 0 value 0 0 0 9 hasReturned ∷ listed 0 1 value 5 0 1 2 hasReturned ∷ [])
+    gives sixtyFour (counted 2 2 0 0 11) (served ∷ listed 0 1 value 5 0 1 2 hasReturned 21 41 ∷ [])
     -- a third add
     ∷ gives (alone Counter 0 (Add 5 ∷ Add 7 ∷ Add 9 ∷ []) 63) (counted 3 3 0 0 11)
-    (listed 0 0 value 0 0 0 9 hasReturned ∷ listed 0 1 value 5 0 1 2 hasReturned ∷ listed 0 2 value 12 0 2 0 hasReturned ∷ [])
+    (served ∷ listed 0 1 value 5 0 1 2 hasReturned 21 41 ∷ listed 0 2 value 12 0 2 0 hasReturned 42 62 ∷ [])
     -- 4, 5 and 43 entries
     ∷ gives (twoAdds 4) (counted 0 0 0 0 3) []
-    ∷ gives (twoAdds 5) (counted 1 0 0 0 4) (listed 0 0 none 0 255 65535 4 stillOpen ∷ [])
-    ∷ gives (twoAdds 43) (counted 2 2 1 0 11) (listed 0 0 value 0 0 0 9 hasReturned ∷ listed 0 1 value 5 0 1 2 hasReturned ∷ [])
+    ∷ gives (twoAdds 5) (counted 1 0 0 0 4) (waiting ∷ [])
+    ∷ gives (twoAdds 43) (counted 2 2 1 0 11) (served ∷ listed 0 1 value 5 0 1 2 hasReturned 21 41 ∷ [])
     -- two threads, h = 8 and h = 1
-    ∷ gives (putAndTake 8 20 3) (counted 2 1 0 1 24) (listed 0 0 done 0 0 0 14 hasReturned ∷ listed 1 0 value 7 0 0 10 hasReturned ∷ [])
-    ∷ gives (putAndTake 1 13 13) (counted 2 2 0 1 20) (listed 0 0 done 0 0 0 10 hasReturned ∷ listed 1 0 value 7 1 1 10 hasReturned ∷ [])
+    ∷ gives (putAndTake 8 20 3) (counted 2 1 0 1 24) (listed 0 0 done 0 0 0 14 hasReturned 0 36 ∷ listed 1 0 value 7 0 0 10 hasReturned 8 39 ∷ [])
+    ∷ gives (putAndTake 1 13 13) (counted 2 2 0 1 20) (listed 0 0 done 0 0 0 10 hasReturned 0 29 ∷ listed 1 0 value 7 1 1 10 hasReturned 8 42 ∷ [])
     -- full and empty
-    ∷ gives (alone Queue 1 (Put 1 ∷ Put 2 ∷ []) 42) (counted 2 2 0 0 11) (listed 0 0 done 0 0 0 9 hasReturned ∷ listed 0 1 full 0 0 1 2 hasReturned ∷ [])
-    ∷ gives (alone Stack 1 (Take ∷ []) 21) (counted 1 1 0 0 9) (listed 0 0 empty 0 0 0 9 hasReturned ∷ [])
+    ∷ gives (alone Queue 1 (Put 1 ∷ Put 2 ∷ []) 42) (counted 2 2 0 0 11) (listed 0 0 done 0 0 0 9 hasReturned 0 20 ∷ listed 0 1 full 0 0 1 2 hasReturned 21 41 ∷ [])
+    ∷ gives (alone Stack 1 (Take ∷ []) 21) (counted 1 1 0 0 9) (listed 0 0 empty 0 0 0 9 hasReturned 0 20 ∷ [])
     -- the sum past 4,294,967,295
     ∷ gives (alone Counter 0 (Add 4_294_967_295 ∷ Add 1 ∷ Add 0 ∷ []) 63) (counted 3 3 0 0 11)
-    (listed 0 0 value 0 0 0 9 hasReturned ∷ listed 0 1 value 4_294_967_295 0 1 2 hasReturned ∷ listed 0 2 value 0 0 2 0 hasReturned ∷ [])
+    (served ∷ listed 0 1 value 4_294_967_295 0 1 2 hasReturned 21 41 ∷ listed 0 2 value 0 0 2 0 hasReturned 42 62 ∷ [])
+    -- request No. 1: a call that began first and swapped second, both returned and both open, and a blank before the first call
+    ∷ gives (fiveAndSeven (replicate 1 0 ++ replicate 21 1 ++ replicate 20 0)) (counted 2 2 0 0 18)
+    (listed 1 0 value 0 1 0 9 hasReturned 1 21 ∷ listed 0 0 value 7 0 1 9 hasReturned 0 41 ∷ [])
+    ∷ gives (fiveAndSeven (replicate 4 0 ++ replicate 5 1 ++ replicate 1 0)) (counted 2 0 0 0 8)
+    (listed 1 0 none 0 255 65535 4 stillOpen 4 4_294_967_295 ∷ waiting ∷ [])
+    ∷ gives (fileOf Counter 2 1 0 ([] ∷ (Add 5 ∷ []) ∷ []) (replicate 1 0 ++ replicate 21 1)) (counted 1 1 1 0 9)
+    (listed 1 0 value 0 1 0 9 hasReturned 1 21 ∷ [])
     ∷ []

@@ -3,7 +3,9 @@ pub mod Copies
 pub mod OfCall
 pub mod Places
 pub mod Shown
+pub mod Stopped
 pub mod Sums
 pub mod Swaps
+pub mod Times
 pub mod Told
 pub mod Turns

@@ -4,11 +4,13 @@ use native.Mathlib.Nat.{zero-add}
 use mathlib.Core.Path.{_≡_, refl, ap₂}
 use mathlib.Core.Bool.{Bool, true, false, cond, not, _||_, and-false, and-eq-true-iff}
 use mathlib.Core.List.{List, _∷_}
+use lib.ListN.{length}
 use lib.Dec.{eqb}
 use borrow.Author.Tests.{eq-eqb, eqb-true}
+use Rattle.machine.specs.declared.Event.{Event}
 use Rattle.machine.specs.declared.Event.the-variants.{Blank, TurnBegins, Returns}
 use Rattle.history.specs.Entries.{Entry, threadId, is, Is, howMany, remoteIn}
-use Rattle.history.specs.Terms.{Call, callOf, same, isOf, turnOfCall, costOf, returned, combined, returns}
+use Rattle.history.specs.Terms.{Call, callOf, same, isOf, turnOfCall, costOf, returned, combined, returns, numberOf}
 use Rattle.history.proofs.Told.{is-so, is-not}
 
 -- request q of thread t
@@ -38,6 +40,9 @@ module _ (e : Entry) (past : List Entry) where
   pub not-of : (c : Call) → (c ≡ callOf e past → ⊥) → isOf c e past ≡ false
   not-of c f = rw (not-same c (callOf e past) f) (and-false (not (is Blank e)))
 
+  pub of-call : (c : Call) → isOf c e past ≡ true → c ≡ callOf e past
+  of-call c z = same-told c (callOf e past) (and-eq-true-iff (not (is Blank e)) (same c (callOf e past)) .0 z .1)
+
   pub is-of : (Is Blank e → ⊥) → isOf (callOf e past) e past ≡ true
   is-of z = rw (is-not e Blank z, same-itself (callOf e past))
 
@@ -48,9 +53,10 @@ module _ (e : Entry) (past : List Entry) where
     pub combined : combined c (e ∷ past) ≡ combined c past
     pub turn : turnOfCall c (e ∷ past) ≡ turnOfCall c past
     pub returns : returns c (e ∷ past) ≡ returns c past
+    pub number : (event : Event) → numberOf event c (e ∷ past) ≡ numberOf event c past
 
   pub left : (c : Call) → isOf c e past ≡ false → Left c
-  left c p = record { cost = rw p (zero-add (costOf c past)); returned = rw p; combined = rw p; turn = rw p; returns = rw p }
+  left c p = record { cost = rw p (zero-add (costOf c past)); returned = rw p; combined = rw p; turn = rw p; returns = rw p; number = λ event. rw p }
 
   -- and what an entry of the call adds
   pub record Added (c : Call) : Type 0 where
@@ -59,6 +65,7 @@ module _ (e : Entry) (past : List Entry) where
     pub combined : combined c (e ∷ past) ≡ (is TurnBegins e || combined c past)
     pub turn : turnOfCall c (e ∷ past) ≡ cond (is TurnBegins e) (howMany TurnBegins past) (turnOfCall c past)
     pub returns : returns c (e ∷ past) ≡ cond (is Returns e) (e .ret) (returns c past)
+    pub number : (event : Event) → numberOf event c (e ∷ past) ≡ cond (is event e) (length past) (numberOf event c past)
 
   pub added : (c : Call) → isOf c e past ≡ true → Added c
-  added c p = record { cost = rw p; returned = rw p; combined = rw p; turn = rw p; returns = rw p }
+  added c p = record { cost = rw p; returned = rw p; combined = rw p; turn = rw p; returns = rw p; number = λ event. rw p }

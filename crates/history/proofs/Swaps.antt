@@ -48,7 +48,7 @@ module _ {n h : ℕ} {x x′ : Seen} {p p′ : Positions} {t : ℕ} {e : Entry} 
   of-last = rw (by-thread m) (ap (lastOf t) (rw (by-thread m) at (begun-kept t (m .below))))
 
   -- positions up to the last Swap, and the entry's own
-  by-position : {P : Type 0} (i : ℕ) → i < p′ .s → (i < p .s → P) → (Is Swaps e → i ≡ p .s → P) → P
+  pub by-position : {P : Type 0} (i : ℕ) → i < p′ .s → (i < p .s → P) → (Is Swaps e → i ≡ p .s → P) → P
   by-position i below old new =
       let more = note .s in
       by-order i (p .s) old
@@ -58,7 +58,7 @@ module _ {n h : ℕ} {x x′ : Seen} {p p′ : Positions} {t : ℕ} {e : Entry} 
   pub order-kept : (i : ℕ) (c : Call) → i < p .s → getD (swapOrder (e ∷ past)) i c ≡ getD (swapOrder past) i c
   order-kept i c below = List·getD-append (swapOrder past) _ c i (omega (arith, w .swaps))
 
-  order-new : (c : Call) → Is Swaps e → getD (swapOrder (e ∷ past)) (p .s) c ≡ lastCall x′ t
+  pub order-new : (c : Call) → Is Swaps e → getD (swapOrder (e ∷ past)) (p .s) c ≡ lastCall x′ t
   order-new c swap = rw (is-so e Swaps swap) (getD-at (swapOrder past) (callOf e past) [] c (p .s) (w .swaps) ∙ of-last)
 
   swapped-kept : (c : Call) → Swapped n x c → Swapped n x′ c
@@ -78,7 +78,7 @@ module _ {n h : ℕ} {x x′ : Seen} {p p′ : Positions} {t : ℕ} {e : Entry} 
       let next = goes m .swaps swap in
       record { thread = m .below; begun = omega (arith, busy-kept t (m .below) (omega arith)); before = λ i. absurd (omega arith) }
 
-  not-yet : (c : Call) → Is Swaps e → Swapped n x c → c ≡ lastCall x′ t → ⊥
+  pub not-yet : (c : Call) → Is Swaps e → Swapped n x c → c ≡ lastCall x′ t → ⊥
   not-yet c swap f same =
       let last : Swapped n x (lastCall x′ t) = rw same at f in
       let early = last .before (goes m .swaps swap .0) in

@@ -33,9 +33,10 @@ pub record Later (t : ℕ) (e : Entry) (u i b j b′ : ℕ) : Type 0 where
 -- and its own thread
 pub record Told (e : Entry) (i b j b′ : ℕ) : Type 0 where
   pub active : (Is Blank e → ⊥) → (Is CallBegins e → ⊥) → 0 < i
-  pub begins : Is CallBegins e → (i ≡ idle) × (b′ ≡ suc b)
+  pub begins : Is CallBegins e → (i ≡ idle) × (b′ ≡ suc b) × (j ≡ calling)
   pub same : (Is CallBegins e → ⊥) → b′ ≡ b
   pub busy : 0 < j → (Is Blank e → ⊥) × (Is Returns e → ⊥)
+  pub stops : 0 < i → j ≡ idle → Is Returns e
   pub swaps : Is Swaps e → (i ≡ calling) × (j ≡ waiting)
   pub turn : Is TurnBegins e → (i ≡ waiting) × (j ≡ combining)
   pub applies : Is Applies e → (i ≡ combining) × (j ≡ combining)

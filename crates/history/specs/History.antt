@@ -8,7 +8,7 @@ use lib.Dec.{leb, eqb}
 use Rattle.machine.specs.declared.NodeId.{NodeId}
 use Rattle.machine.specs.declared.Event.the-variants.{TurnBegins}
 use Rattle.history.specs.Entries.{Entry, threadId, howMany}
-use Rattle.history.specs.Terms.{Call, Serving, begunBy, swapOrder, callAssigned, turnOf, turnOfCall, combines, servings, servedIn, costOf, returned, combined, returns}
+use Rattle.history.specs.Terms.{Call, Serving, begunBy, swapOrder, callAssigned, turnOf, turnOfCall, combines, servings, servedIn, costOf, returned, combined, returns, beganAt, swappedAt, endedAt, precedes}
 use Rattle.history.specs.Method.{Seen, Positions, calling, waiting, combining, leaving}
 
 -- the node of a number
@@ -108,3 +108,24 @@ module _ (Paid : Bool → ℕ → ℕ → Type 0) where
     pub open-call : (u : ℕ) → u < n → 0 < x .phase u → Open n x u (x .phase u) (x .begun u) (x .counter u) (cost u) past
     pub served : (u : ℕ) (d : Serving) → u < n → waiting ≤ x .phase u → p .at u < p .a → Served u (x .phase u) past (getD (servings past) (p .at u) d)
     pub settled : (c : Call) → returned c past ≡ true → Settled n x p past c
+
+-- a call whose Swap is done, in time: it began before its Swap, and has returned, if it has, behind it
+pub record SwapTime (past : List Entry) (c : Call) : Type 0 where
+  pub began : beganAt c past < swappedAt c past
+  pub done : swappedAt c past < length past
+  pub ended : returned c past ≡ true → swappedAt c past < endedAt c past
+
+-- a call has returned, with a lower number than another began with
+pub record Ordered (past : List Entry) (c other : Call) : Type 0 where
+  pub returned : returned c past ≡ true
+  pub numbers : endedAt c past < beganAt other past
+
+-- calls in time: a call that has begun has the number of an entry, and has returned unless it is its thread's open call; one that had returned when another began has
+-- a lower number; positions are in the order of their Swaps
+pub record Times (n : ℕ) (x : Seen) (p : Positions) (past : List Entry) : Type 0 where
+  pub began : (c : Call) → c .thread .0 < n → c .request < x .begun (c .thread .0) → beganAt c past < length past
+  pub closed : (c : Call) → c .thread .0 < n → c .request < x .begun (c .thread .0) → (0 < x .phase (c .thread .0) → suc (c .request) < x .begun (c .thread .0))
+      → returned c past ≡ true
+  pub ordered : (c other : Call) → precedes c other past ≡ true → Ordered past c other
+  pub swapped : (i : ℕ) (d : Call) → i < p .s → SwapTime past (getD (swapOrder past) i d)
+  pub in-time : (i k : ℕ) (d : Call) → i < k → k < p .s → swappedAt (getD (swapOrder past) i d) past < swappedAt (getD (swapOrder past) k d) past

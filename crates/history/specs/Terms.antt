@@ -1,18 +1,21 @@
--- The terms of demand 3 as document 01 has them, each by the entries of a history alone: calls, Swap order, turns, servings, remote references, records, counts.
+-- The terms of demand 3 as document 01 has them, each by the entries of a history alone: calls, Swap order, turns, servings, remote references, when calls began
+-- and returned, records, counts.
 -- They go by what an entry is, and by no line's number, so they are the same for every method; which line is which: the last column of `rowOf` in
 -- machine/specs/Lines.antt.
 use Prim.Native.Nat.{ℕ, _-_}
 use mathlib.Core.Bool.{Bool, false, cond, not, _&&_, _||_}
 use mathlib.Core.List.{List, [], _∷_, _++_, map}
-use lib.ListN.{getD}
+use lib.ListN.{length, getD, take, drop}
 use lib.Dec.{eqb}
 use Rattle.object.specs.Paper.{answerMark, answerValue}
 use Rattle.bench_file.specs.Bytes.{lowFirst}
+use Rattle.bench_file.specs.Reading.{littleEndian}
 use Rattle.machine.specs.declared.ThreadId.{ThreadId}
 use Rattle.machine.specs.declared.NodeId.{NodeId}
 use Rattle.machine.specs.declared.Announced.{Announced}
 use Rattle.machine.specs.declared.RetVal.{RetVal}
 use Rattle.machine.specs.declared.RetVal.the-variants.{NoAnswer, Answered}
+use Rattle.machine.specs.declared.Event.{Event}
 use Rattle.machine.specs.declared.Event.the-variants.{Blank, CallBegins, Swaps, TurnBegins, Applies, TurnEnds, Returns, Spins}
 use Rattle.state.specs.declared.Counts.{Counts}
 use Rattle.step.specs.Entry.{oneIf}
@@ -37,6 +40,10 @@ same c c′ = eqb (c .thread .0) (c′ .thread .0) && eqb (c .request) (c′ .re
 
 abbrev pub isOf : Call → Entry → List Entry → Bool
 isOf c e past = not (is Blank e) && same c (callOf e past)
+
+-- whether an entry is such an event of a call
+abbrev pub does : Event → Call → Entry → List Entry → Bool
+does event c e past = isOf c e past && is event e
 
 -- Swap order: the entries that do a Swap, each standing for its call
 abbrev pub swapOrder : List Entry → List Call
@@ -66,7 +73,7 @@ abbrev pub turnOf : ThreadId → List Entry → ℕ
 turnOf t = latest noTurn (λ e past. isBy t TurnBegins e) (λ e past. howMany TurnBegins past)
 
 abbrev pub turnOfCall : Call → List Entry → ℕ
-turnOfCall c = latest noTurn (λ e past. isOf c e past && is TurnBegins e) (λ e past. howMany TurnBegins past)
+turnOfCall c = latest noTurn (does TurnBegins c) (λ e past. howMany TurnBegins past)
 
 -- a thread is combiner while its turn has begun and not ended
 abbrev pub combines : ThreadId → List Entry → Bool
@@ -96,14 +103,39 @@ costOf c = sumOver (λ e past. cond (isOf c e past) (remoteIn (e .remote)) 0)
 
 -- a call has returned once an entry of it returns; it combined if it began a turn
 abbrev pub returned : Call → List Entry → Bool
-returned c = happened (λ e past. isOf c e past && is Returns e)
+returned c = happened (does Returns c)
 
 abbrev pub combined : Call → List Entry → Bool
-combined c = happened (λ e past. isOf c e past && is TurnBegins e)
+combined c = happened (does TurnBegins c)
 
 -- what a returned call returns
 abbrev pub returns : Call → List Entry → RetVal
-returns c = latest NoAnswer (λ e past. isOf c e past && is Returns e) (λ e past. e .ret)
+returns c = latest NoAnswer (does Returns c) (λ e past. e .ret)
+
+-- what stands for the number of no entry
+abbrev pub noEntry : ℕ
+noEntry = 4_294_967_295
+
+-- an entry's number is how many came before it, its place in the schedule, blanks and spins included: of the latest entry that passes a test
+abbrev pub numberWhere : (Entry → List Entry → Bool) → List Entry → ℕ
+numberWhere test = latest noEntry test (λ e past. length past)
+
+-- the number of the entry that was such an event of a call: of the one that began it, of its Swap, and of the one that it returned with
+abbrev pub numberOf : Event → Call → List Entry → ℕ
+numberOf event c = numberWhere (does event c)
+
+abbrev pub beganAt : Call → List Entry → ℕ
+beganAt = numberOf CallBegins
+
+abbrev pub swappedAt : Call → List Entry → ℕ
+swappedAt = numberOf Swaps
+
+abbrev pub endedAt : Call → List Entry → ℕ
+endedAt = numberOf Returns
+
+-- whether a call had returned when another began
+abbrev pub precedes : Call → Call → List Entry → Bool
+precedes c d = happened (λ e past. does CallBegins d e past && returned c past)
 
 -- how a call was served: with which answer, by which thread and in which turn
 pub record Shown : Type 0 where
@@ -132,18 +164,23 @@ retValue (Answered answer) = answerValue answer
 
 -- how many bytes a record has
 abbrev pub recordLength : ℕ
-recordLength = 16
+recordLength = 24
 
--- a record, its bytes, from thread, request, mark, serving thread, value, remote references, whether the call has returned, and turn
-abbrev pub recordBytes : ℕ → ℕ → ℕ → ℕ → ℕ → ℕ → Bool → ℕ → List ℕ
-recordBytes thread request mark server value remote over turn =
-    thread ∷ request ∷ mark ∷ server ∷ lowFirst 4 value ++ lowFirst 4 remote ++ oneIf over ∷ lowFirst 2 turn ++ 0 ∷ []
+-- a record, its bytes, from thread, request, mark, serving thread, value, remote references, whether the call has returned, turn, and the
+-- numbers of the entries that it began and ended with
+abbrev pub recordBytes : ℕ → ℕ → ℕ → ℕ → ℕ → ℕ → Bool → ℕ → ℕ → ℕ → List ℕ
+recordBytes thread request mark server value remote over turn began ended =
+    thread ∷ request ∷ mark ∷ server ∷ lowFirst 4 value ++ lowFirst 4 remote ++ oneIf over ∷ lowFirst 2 turn ++ 0 ∷ lowFirst 4 began ++ lowFirst 4 ended
 
 -- the record of a call
 abbrev pub recordOf : List Entry → Call → List ℕ
 recordOf history c =
     let w = shownOf c (servings history) in
-    recordBytes (c .thread .0) (c .request) (retMark (w .ret)) (w .server .0) (retValue (w .ret)) (costOf c history) (returned c history) (w .turn)
+    recordBytes (c .thread .0) (c .request) (retMark (w .ret)) (w .server .0) (retValue (w .ret)) (costOf c history) (returned c history) (w .turn) (beganAt c history) (endedAt c history)
+
+-- the number of so many bytes of a record, from byte i on
+abbrev pub numberAt : List ℕ → ℕ → ℕ → ℕ
+numberAt bytes i width = littleEndian (take width (drop i bytes))
 
 -- one record for each Swap, in Swap order
 abbrev pub recordsOf : List Entry → List (List ℕ)

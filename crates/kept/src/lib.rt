@@ -17,18 +17,25 @@ pub struct Kept {
     pub server: u8,
     pub value: u32,
     pub remote: u32,
-    pub returned: bool,
     pub turn: u16,
+    pub began: u32,
+    pub ended: u32,
 }
 
 // How many bytes the record of a call has.
-pub const RECORD_LENGTH: usize = 16;
+pub const RECORD_LENGTH: usize = 24;
 
 // The place of no call: that of request 255 of thread 255.
 pub const NO_CALL: u16 = 16 * 255 + 255;
 
+// No thread: the server of a call that is not served.
+pub const NO_THREAD: u8 = 255;
+
 // No turn: of a thread that has begun none, and of a call that is not served.
 pub const NO_TURN: u16 = 65535;
+
+// No entry's number: of a call that has not returned, or not begun.
+pub const NO_ENTRY: u32 = 4_294_967_295;
 
 // What is kept of a call before its first entry.
 pub fn unkept() -> Kept
@@ -36,21 +43,32 @@ pub fn unkept() -> Kept
 {
     Kept {
         mark: 255,
-        server: 255,
+        server: NO_THREAD,
         value: 0,
         remote: 0,
-        returned: false,
         turn: NO_TURN,
+        began: NO_ENTRY,
+        ended: NO_ENTRY,
     }
 }
 
-// The entry's call: its remote references, and whether it has returned.
-pub fn after_entry(kept: Kept, event: Event, remote: u8) -> Kept
-    ensures { λ r. ⌜ r ≡ afterEntry kept event remote ⌝ }
+// The number of an entry that is the event asked for, else the number as it was.
+fn numbered(is: bool, number: u32, before: u32) -> u32
+    ensures { λ r. ⌜ r ≡ cond is number before ⌝ }
 {
+    if is { number } else { before }
+}
+
+// The entry's call: its remote references, and the numbers of the entries that it begins and ends with.
+pub fn after_entry(kept: Kept, event: Event, remote: u8, number: u32) -> Kept
+    ensures { λ r. ⌜ r ≡ afterEntry kept event remote number ⌝ }
+{
+    let begins = machine::same_event(event, Event::CallBegins);
+    let returns = machine::same_event(event, Event::Returns);
     let mut after = kept;
     after.remote = std::num::wrapping_add_u32(kept.remote, remote as u32);
-    after.returned = machine::same_event(event, Event::Returns) | kept.returned;
+    after.began = numbered(begins, number, kept.began);
+    after.ended = numbered(returns, number, kept.ended);
     after
 }
 
@@ -64,8 +82,9 @@ pub fn after_serving(kept: Kept, serves: bool, answer: Answer, server: ThreadId,
             server: server.0,
             value: object::answer_value(answer),
             remote: kept.remote,
-            returned: kept.returned,
             turn,
+            began: kept.began,
+            ended: kept.ended,
         };
     }
     kept

@@ -1,23 +1,22 @@
--- The listing from the records in a buffer; and a record's line shows its call. Assumes records of a record's length, and fields in range.
-use Prim.Native.Nat.{ℕ, _^_, _<_}
-use native.Mathlib.Omega.{arith}
-use mathlib.Core.Path.{_≡_, refl, _∙_}
+-- The listing from the records in a buffer; and a record's line shows its call. Assumes records of a record's length, and the claim or fields in range.
+use Prim.Native.Nat.{ℕ}
+use mathlib.Core.Path.{_≡_, refl}
 use mathlib.Core.List.{List, _++_}
 use lib.ListN.{length}
 use Rattle.object.specs.declared.Answer.the-variants.{Done, Value, Empty, Full}
 use Rattle.object.specs.Each.{Each}
 use Rattle.object.proofs.Each.{each-map}
-use Rattle.bench_file.specs.Reading.{littleEndian}
 use Rattle.bench_file.specs.Layout.{Fields, accepted}
 use Rattle.bench_file.specs.Bytes.{lowFirst, eachBytes, InRange}
-use Rattle.bench_file.proofs.Each.{low-value}
 use Rattle.machine.specs.declared.RetVal.{RetVal}
 use Rattle.machine.specs.declared.RetVal.the-variants.{NoAnswer, Answered}
+use Rattle.machine.specs.declared.Event.the-variants.{CallBegins, Returns}
 use Rattle.step.specs.Entry.{oneIf}
 use Rattle.history.specs.Entries.{Entry}
-use Rattle.history.specs.Terms.{Call, Shown, shownOf, servings, costOf, returned, retMark, retValue, recordOf, recordsOf, countsOf}
+use Rattle.history.specs.Terms.{Call, shownOf, servings, costOf, returned, beganAt, endedAt, retMark, retValue, recordOf, recordsOf, countsOf}
 use Rattle.claims.specs.Entries.{historyOf}
-use Rattle.claims.specs.Claims.{RecordSized}
+use Rattle.claims.specs.Claims.{RecordSized, Claimed}
+use Rattle.claims.proofs.Bytes.{value-bytes, cost-bytes, turn-bytes, began-bytes, ended-bytes}
 use Rattle.claims.proofs.Theorem.{claim-whole}
 use Rattle.bench.proofs.InPlace.{laid-back}
 use Rattle.listing.specs.Listing.{headLine, retOf, callLine, recordLine, recordLines, listingOf}
@@ -42,26 +41,25 @@ ret-back (Answered (Value v)) = refl
 ret-back (Answered Empty) = refl
 ret-back (Answered Full) = refl
 
--- a record's line shows its call: thread, request, how it was served, its remote references and whether it has returned
-module _ (order : ℕ) (history : List Entry) (c : Call) where
-  abbrev w : Shown
-  w = shownOf c (servings history)
-
-  bytes-shown : recordLine order (recordOf history c) ≡ callLine order (c .thread .0) (c .request) (retOf (retMark (w .ret)) (littleEndian (lowFirst 4 (retValue (w .ret))))) (w .server .0) (littleEndian (lowFirst 2 (w .turn))) (littleEndian (lowFirst 4 (costOf c history))) (oneIf (returned c history))
-  unfolding recordLine lowFirst
-  bytes-shown = refl
-
-  pub call-shown
-      : retValue (w .ret) < 2 ^ 32 → w .turn < 65536 → costOf c history < 2 ^ 32
-      → recordLine order (recordOf history c) ≡ callLine order (c .thread .0) (c .request) (w .ret) (w .server .0) (w .turn) (costOf c history) (oneIf (returned c history))
-  call-shown v t k =
-      bytes-shown ∙ rw (low-value 4 (retValue (w .ret)) v, low-value 2 (w .turn) t, low-value 4 (costOf c history) k, ret-back)
-
--- so in the run of fields in range, where they fit: no condition is left
-pub run-shown : (f : Fields) → InRange f → (order : ℕ) (c : Call)
-    → let history = historyOf f in
+-- the line that shows a call: thread, request, how it was served, its remote references, whether it has returned, and its time
+abbrev pub shownLine : ℕ → List Entry → Call → List ℕ
+shownLine order history c =
     let w = shownOf c (servings history) in
-    recordLine order (recordOf history c) ≡ callLine order (c .thread .0) (c .request) (w .ret) (w .server .0) (w .turn) (costOf c history) (oneIf (returned c history))
-run-shown f fits order c =
-    let claim = claim-whole f fits in
-    call-shown order (historyOf f) c (claim .value-fits c) (omega (arith, claim .turn-fits c)) (claim .cost-fits c)
+    callLine order (c .thread .0) (c .request) (w .ret) (w .server .0) (w .turn) (costOf c history) (oneIf (returned c history)) (beganAt c history) (endedAt c history)
+
+-- a record's line shows its call, where the claim says that each number fits its bytes
+pub call-shown : (order : ℕ) (history : List Entry) (c : Call) {f : Fields} → Claimed f history → recordLine order (recordOf history c) ≡ shownLine order history c
+unfolding recordLine lowFirst
+call-shown order history c claim =
+    rw (
+      value-bytes history c (claim .value-fits c),
+      turn-bytes history c (claim .turn-fits c),
+      cost-bytes history c (claim .cost-fits c),
+      began-bytes history c (claim .numbers-fit c CallBegins),
+      ended-bytes history c (claim .numbers-fit c Returns),
+      ret-back,
+    )
+
+-- so in the run of fields in range: no condition is left
+pub run-shown : (f : Fields) → InRange f → (order : ℕ) (c : Call) → recordLine order (recordOf (historyOf f) c) ≡ shownLine order (historyOf f) c
+run-shown f fits order c = call-shown order (historyOf f) c (claim-whole f fits)

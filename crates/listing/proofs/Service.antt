@@ -13,6 +13,7 @@ use Rattle.bench_file.specs.Layout.{Fields, Judgement, accepted, judgeOf}
 use Rattle.bench_file.specs.Promise.{Judges, judgedAs}
 use Rattle.bench_file.specs.Bytes.{InRange}
 use Rattle.state.specs.declared.Counts.{Counts}
+use Rattle.machine.specs.Sizes.{mostCalls}
 use Rattle.history.specs.Entries.{Entry}
 use Rattle.history.specs.Terms.{recordLength, recordsOf, countsOf}
 use Rattle.claims.specs.Entries.{historyOf}
@@ -39,7 +40,7 @@ module _ {bytes records : List ℕ} {answer : RunAnswer} (runs : Runs bytes (rep
   as-many : answer .counts .records ≡ length (recordsOf history)
   as-many = ap (λ (c : Counts). c .records) counted ∙ sym (runs .whole f judged .records)
 
-  records-few : answer .counts .records ≤ 256
+  records-few : answer .counts .records ≤ mostCalls
   records-few = omega (arith, ap (λ (c : Counts). c .records) counted, all-swaps-few f fits)
 
   run-listed : headLine (f .head) (answer .counts) ++ recordLines 0 (recordsLaid (answer .counts .records) records) ≡ listingOf (judgeOf bytes)
@@ -49,7 +50,7 @@ module _ {bytes records : List ℕ} {answer : RunAnswer} (runs : Runs bytes (rep
 
 -- what the listing of an accepted file is made of
 pub record Listable (bytes records : List ℕ) (answer : RunAnswer) (head : Head) : Type 0 where
-  pub most : answer .counts .records ≤ 256
+  pub most : answer .counts .records ≤ mostCalls
   pub words : headLine head (answer .counts) ++ recordLines 0 (recordsLaid (answer .counts .records) records) ≡ listingOf (judgeOf bytes)
 
 pub listable : {bytes records : List ℕ} {answer : RunAnswer} {r : Judged} {head : Head} {requests entries : ℕ} → Runs bytes (replicate enoughForRecords 0) records answer → Judges bytes r → r ≡ Judged.Accepted head requests entries

@@ -16,4 +16,4 @@ abbrev pub headMost : ℕ
 headMost = 125
 
 abbrev pub lineMost : ℕ
-lineMost = 92
+lineMost = 114

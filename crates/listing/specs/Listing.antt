@@ -2,19 +2,18 @@
 use Prim.Native.Nat.{ℕ, suc}
 use mathlib.Core.Bool.{cond}
 use mathlib.Core.List.{List, [], _∷_, _++_}
-use lib.ListN.{getD, take, drop}
+use lib.ListN.{getD}
 use lib.Dec.{eqb}
 use Rattle.object.specs.declared.Kind.{Kind}
 use Rattle.object.specs.declared.Kind.the-variants.{Queue, Stack, Counter}
 use Rattle.object.specs.declared.Answer.{Answer}
 use Rattle.object.specs.declared.Answer.the-variants.{Done, Value, Empty, Full}
 use Rattle.bench_file.specs.declared.Head.{Head}
-use Rattle.bench_file.specs.Reading.{littleEndian}
 use Rattle.bench_file.specs.Layout.{Judgement, accepted, refusedBy}
 use Rattle.machine.specs.declared.RetVal.{RetVal}
 use Rattle.machine.specs.declared.RetVal.the-variants.{NoAnswer, Answered}
 use Rattle.state.specs.declared.Counts.{Counts}
-use Rattle.history.specs.Terms.{recordsOf, countsOf}
+use Rattle.history.specs.Terms.{noThread, noTurn, noEntry, numberAt, recordsOf, countsOf}
 use Rattle.claims.specs.Entries.{historyOf}
 use Rattle.listing.specs.Text.{text, decimal, textLine}
 
@@ -70,36 +69,37 @@ abbrev pub valueWord : RetVal → List ℕ
 valueWord NoAnswer = text "-"
 valueWord (Answered answer) = answerValueWord answer
 
--- server and turn print a hyphen before serving, when they are 255 and 65,535
-abbrev pub servedWord : ℕ → ℕ → List ℕ
-servedWord none number = cond (eqb number none) (text "-") (decimal number)
+-- a number, or a hyphen where it is that of none: server and turn before serving, the end while the call is open
+abbrev pub orHyphen : ℕ → ℕ → List ℕ
+orHyphen none number = cond (eqb number none) (text "-") (decimal number)
 
 -- byte 12: `returned` where it is 1, else `open`
-abbrev pub endWord : ℕ → List ℕ
-endWord over = cond (eqb over 1) (text "returned") (text "open")
+abbrev pub stateWord : ℕ → List ℕ
+stateWord over = cond (eqb over 1) (text "returned") (text "open")
 
--- serving thread, turn, remote count, and whether the call is over
-abbrev pub servingWords : ℕ → ℕ → ℕ → ℕ → List (List ℕ)
-servingWords server turn remote over = servedWord 255 server ∷ servedWord 65535 turn ∷ decimal remote ∷ endWord over ∷ []
+-- the numbers of the entries that the call began and ended with
+abbrev pub timeWords : ℕ → ℕ → List (List ℕ)
+timeWords began ended = decimal began ∷ orHyphen noEntry ended ∷ []
 
--- the line of a call: its order from 0, thread, request, mark word, value, and how it was served
-unfoldable pub callLine : ℕ → ℕ → ℕ → RetVal → ℕ → ℕ → ℕ → ℕ → List ℕ
-callLine order thread request ret server turn remote over =
+-- serving thread, turn, remote count, whether the call is over, and its time
+abbrev pub servingWords : ℕ → ℕ → ℕ → ℕ → ℕ → ℕ → List (List ℕ)
+servingWords server turn remote over began ended = orHyphen (noThread .0) server ∷ orHyphen noTurn turn ∷ decimal remote ∷ stateWord over ∷ timeWords began ended
+
+-- the line of a call: its order from 0, thread, request, mark word, value, how it was served, and its time
+unfoldable pub callLine : ℕ → ℕ → ℕ → RetVal → ℕ → ℕ → ℕ → ℕ → ℕ → ℕ → List ℕ
+callLine order thread request ret server turn remote over began ended =
     textLine (decimal order)
-    (decimal thread ∷ decimal request ∷ markWord ret ∷ valueWord ret ∷ servingWords server turn remote over)
+    (decimal thread ∷ decimal request ∷ markWord ret ∷ valueWord ret ∷ servingWords server turn remote over began ended)
 
--- byte i of a record, and the number of so many bytes from i on
+-- byte i of a record
 abbrev pub byteAt : List ℕ → ℕ → ℕ
 byteAt bytes i = getD bytes i 0
-
-abbrev pub numberAt : List ℕ → ℕ → ℕ → ℕ
-numberAt bytes i width = littleEndian (take width (drop i bytes))
 
 -- the line of a record, from its order and its bytes
 unfoldable pub recordLine : ℕ → List ℕ → List ℕ
 recordLine order bytes =
     let ret = retOf (byteAt bytes 2) (numberAt bytes 4 4) in
-    callLine order (byteAt bytes 0) (byteAt bytes 1) ret (byteAt bytes 3) (numberAt bytes 13 2) (numberAt bytes 8 4) (byteAt bytes 12)
+    callLine order (byteAt bytes 0) (byteAt bytes 1) ret (byteAt bytes 3) (numberAt bytes 13 2) (numberAt bytes 8 4) (byteAt bytes 12) (numberAt bytes 16 4) (numberAt bytes 20 4)
 
 -- the lines of records, numbered from an order on
 unfoldable pub recordLines : ℕ → List (List ℕ) → List ℕ

@@ -6,6 +6,7 @@ use mathlib.Core.List.{List, _++_}
 use lib.ListN.{length, drop}
 use lib.Dec.{leb}
 use Rattle.bench_file.specs.Layout.{judgeOf}
+use Rattle.machine.specs.Sizes.{mostCalls}
 use Rattle.listing.specs.declared.Listed.{Listed}
 use Rattle.listing.specs.Listing.{listingOf}
 use Rattle.listing.specs.Laid.{headMost, lineMost}
@@ -23,9 +24,9 @@ pub record Gives (words old new : List ℕ) (r : Listed) : Type 0 where
   pub answer : r ≡ listedAs (length old) words
   pub buffer : new ≡ bufferAfter words old
 
--- so many bytes hold every listing: a head line and a line for each of at most 256 records
+-- so many bytes hold every listing: a head line, and a line for each call
 abbrev pub enoughBytes : ℕ
-enoughBytes = headMost + 256 * lineMost
+enoughBytes = headMost + mostCalls * lineMost
 
 -- the listing of a file
 pub record Lists (bytes old new : List ℕ) (r : Listed) : Type 0 where

@@ -6,12 +6,13 @@ use object::Answer;
 use object::Kind;
 use state::Counts;
 ghost use mathlib.Core.Path.{_≡_};
-ghost use mathlib.Core.List.{[], _∷_, _++_};
+ghost use mathlib.Core.List.{_++_};
 ghost use Prim.Native.Nat.{_+_, _*_, _≤_, _<_};
 ghost use lib.ListN.{length};
 ghost use Rattle.listing.specs.Text.{text, digit, decimal, lineEnd};
-ghost use Rattle.listing.specs.Listing.{kindWord, countWords, headLine, retOf, answerWord, markWord, valueWord, servedWord, endWord, servingWords, byteAt, numberAt, recordLine, recordLines, refusalLine};
-ghost use Rattle.history.specs.Terms.{recordLength};
+ghost use Rattle.listing.specs.Listing.{kindWord, countWords, headLine, retOf, answerWord, markWord, valueWord, orHyphen, stateWord, timeWords, servingWords, byteAt, recordLine, recordLines, refusalLine};
+ghost use Rattle.machine.specs.Sizes.{mostCalls};
+ghost use Rattle.history.specs.Terms.{recordLength, numberAt};
 ghost use Rattle.bench.specs.Run.{recordsLaid};
 ghost use Rattle.listing.specs.Laid.{Laid, headMost, lineMost};
 ghost use Rattle.listing.specs.Promise.{Gives, Lists, enoughBytes};
@@ -22,8 +23,8 @@ pub struct Listed {
     pub length: usize,
 }
 
-// So many bytes hold every listing: a head line of at most 125 and 256 lines of at most 92.
-pub const ENOUGH: usize = 125 + 256 * 92;
+// So many bytes hold every listing: a head line of at most 125, and a line of at most 114 for each call.
+pub const ENOUGH: usize = 125 + machine::CALLS * 114;
 
 // Lays a text into a buffer from a place on. Each function that lays text answers the place behind it.
 fn put_text(out: &mut [u8], at: usize, word: &[u8]) -> usize
@@ -62,10 +63,10 @@ fn put_named(out: &mut [u8], at: usize, name: &[u8], number: u32) -> usize
     put_decimal(out, next, number)
 }
 
-// Server or turn, a hyphen before serving.
-fn put_served(out: &mut [u8], at: usize, none: u32, number: u32) -> usize
+// A number, a hyphen where it is that of none.
+fn put_or_hyphen(out: &mut [u8], at: usize, none: u32, number: u32) -> usize
     requires { ⌜ at + 11 ≤ length (now out) ⌝ }
-    ensures { λ r. ⌜ Laid (now (out .entry)) at (text " " ++ servedWord none number) (now (out .exit)) r ⌝ }
+    ensures { λ r. ⌜ Laid (now (out .entry)) at (text " " ++ orHyphen none number) (now (out .exit)) r ⌝ }
     ensures { λ r. ⌜ r ≤ at + 11 ⌝ }
 {
     if number == none {
@@ -138,15 +139,15 @@ fn put_value(out: &mut [u8], at: usize, ret: RetVal) -> usize
     put_named(out, at, b" ", v)
 }
 
-fn put_end(out: &mut [u8], at: usize, over: u8) -> usize
-    requires { ⌜ at + 10 ≤ length (now out) ⌝ }
-    ensures { λ r. ⌜ Laid (now (out .entry)) at (lineEnd (endWord over ∷ [])) (now (out .exit)) r ⌝ }
-    ensures { λ r. ⌜ r ≤ at + 10 ⌝ }
+fn put_state(out: &mut [u8], at: usize, over: u8) -> usize
+    requires { ⌜ at + 9 ≤ length (now out) ⌝ }
+    ensures { λ r. ⌜ Laid (now (out .entry)) at (text " " ++ stateWord over) (now (out .exit)) r ⌝ }
+    ensures { λ r. ⌜ r ≤ at + 9 ⌝ }
 {
     if over == 1 {
-        return put_text(out, at, b" returned\n");
+        return put_text(out, at, b" returned");
     }
-    put_text(out, at, b" open\n")
+    put_text(out, at, b" open")
 }
 
 // A byte of a record, and the numbers of two and of four bytes, the lowest first.
@@ -171,16 +172,28 @@ fn number4(bytes: &[u8], i: usize) -> u32
     number2(bytes, i) + 65536 * number2(bytes, i + 2)
 }
 
+// The end of a record's line: the numbers of the entries that its call began and ended with.
+fn put_times(out: &mut [u8], at: usize, bytes: &[u8]) -> usize
+    requires { ⌜ (length (now bytes) ≡ recordLength) × (at + 23 ≤ length (now out)) ⌝ }
+    ensures { λ r. ⌜ Laid (now (out .entry)) at (lineEnd (timeWords (numberAt (now (bytes .entry)) 16 4) (numberAt (now (bytes .entry)) 20 4))) (now (out .exit)) r ⌝ }
+    ensures { λ r. ⌜ r ≤ at + 23 ⌝ }
+{
+    let began = put_named(out, at, b" ", number4(bytes, 16));
+    let ended = put_or_hyphen(out, began, kept::NO_ENTRY, number4(bytes, 20));
+    put_text(out, ended, b"\n")
+}
+
 // A record's line from its server on.
 fn put_serving(out: &mut [u8], at: usize, bytes: &[u8]) -> usize
-    requires { ⌜ (length (now bytes) ≡ recordLength) × (at + 43 ≤ length (now out)) ⌝ }
-    ensures { λ r. ⌜ Laid (now (out .entry)) at (lineEnd (servingWords (byteAt (now (bytes .entry)) 3) (numberAt (now (bytes .entry)) 13 2) (numberAt (now (bytes .entry)) 8 4) (byteAt (now (bytes .entry)) 12))) (now (out .exit)) r ⌝ }
-    ensures { λ r. ⌜ r ≤ at + 43 ⌝ }
+    requires { ⌜ (length (now bytes) ≡ recordLength) × (at + 65 ≤ length (now out)) ⌝ }
+    ensures { λ r. ⌜ Laid (now (out .entry)) at (lineEnd (servingWords (byteAt (now (bytes .entry)) 3) (numberAt (now (bytes .entry)) 13 2) (numberAt (now (bytes .entry)) 8 4) (byteAt (now (bytes .entry)) 12) (numberAt (now (bytes .entry)) 16 4) (numberAt (now (bytes .entry)) 20 4))) (now (out .exit)) r ⌝ }
+    ensures { λ r. ⌜ r ≤ at + 65 ⌝ }
 {
-    let server = put_served(out, at, 255, byte(bytes, 3));
-    let turn = put_served(out, server, 65535, number2(bytes, 13));
+    let server = put_or_hyphen(out, at, kept::NO_THREAD as u32, byte(bytes, 3));
+    let turn = put_or_hyphen(out, server, kept::NO_TURN as u32, number2(bytes, 13));
     let remote = put_named(out, turn, b" ", number4(bytes, 8));
-    put_end(out, remote, bytes[12])
+    let state = put_state(out, remote, bytes[12]);
+    put_times(out, state, bytes)
 }
 
 // The line of a record, from its order and its bytes.
@@ -198,9 +211,9 @@ fn put_record(out: &mut [u8], at: usize, order: u32, bytes: &[u8]) -> usize
     put_serving(out, value, bytes)
 }
 
-// The lines of so many records, of at most 256.
+// The lines of so many records.
 fn put_records(out: &mut [u8], at: usize, records: &[u8], count: usize) -> usize
-    requires { ⌜ (recordLength * count ≤ length (now records)) × (at + lineMost * count ≤ length (now out)) × (count ≤ 256) ⌝ }
+    requires { ⌜ (recordLength * count ≤ length (now records)) × (at + lineMost * count ≤ length (now out)) × (count ≤ mostCalls) ⌝ }
     ensures { λ r. ⌜ Laid (now (out .entry)) at (recordLines 0 (recordsLaid count (now (records .entry)))) (now (out .exit)) r ⌝ }
     ensures { λ r. ⌜ r ≤ at + lineMost * count ⌝ }
 {
@@ -244,7 +257,7 @@ fn put_head(out: &mut [u8], at: usize, head: Head, counts: Counts) -> usize
 
 // The listing of a run, from the buffer's first byte on: its length.
 fn put_run(out: &mut [u8], head: Head, counts: Counts, records: &[u8], count: usize) -> usize
-    requires { ⌜ (recordLength * count ≤ length (now records)) × (headMost + lineMost * count ≤ length (now out)) × (count ≤ 256) ⌝ }
+    requires { ⌜ (recordLength * count ≤ length (now records)) × (headMost + lineMost * count ≤ length (now out)) × (count ≤ mostCalls) ⌝ }
     ensures { λ r. ⌜ Laid (now (out .entry)) 0 (headLine head counts ++ recordLines 0 (recordsLaid count (now (records .entry)))) (now (out .exit)) r ⌝ }
     ensures { λ r. ⌜ r ≤ headMost + lineMost * count ⌝ }
 {
@@ -276,9 +289,9 @@ fn give(words: &[u8], out: &mut [u8]) -> Listed
     Listed { refusal: 0, length }
 }
 
-// Lists a run of at most 256 records.
+// Lists a run of so many records.
 fn list_run(head: Head, counts: Counts, records: &[u8], count: usize, out: &mut [u8]) -> Listed
-    requires { ⌜ (recordLength * count ≤ length (now records)) × (count ≤ 256) ⌝ }
+    requires { ⌜ (recordLength * count ≤ length (now records)) × (count ≤ mostCalls) ⌝ }
     ensures { λ r. ⌜ Gives (headLine head counts ++ recordLines 0 (recordsLaid count (now (records .entry)))) (now (out .entry)) (now (out .exit)) r ⌝ }
     ensures { λ r. ⌜ (enoughBytes ≤ length (now (out .entry)) → r .refusal ≡ 0) ⌝ }
 {

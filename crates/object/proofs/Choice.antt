@@ -1,4 +1,4 @@
--- A choice by two numbers. Assumes nothing.
+-- A choice by two numbers, or by a test. Assumes nothing.
 use Prim.Native.Nat.{ℕ, _≤_, _<_}
 use native.Mathlib.Decide.{ℕ-discrete}
 use mathlib.Core.Path.{_≡_, refl}
@@ -20,3 +20,8 @@ by-order {P} j k under over = go (ltb j k) refl
     go : (b : Bool) → ltb j k ≡ b → P
     go true e = under (ltb-true j k e)
     go false e = over (ltb-false j k e)
+
+-- a test passes or fails
+pub by-test : {P : Type 0} (b : Bool) → (b ≡ true → P) → (b ≡ false → P) → P
+by-test true on off = on refl
+by-test false on off = off refl

@@ -3,7 +3,7 @@ use Prim.Native.Nat.{ℕ, _+_, _^_, _<_}
 use native.Mathlib.Nat.{add-zero, mod-eq-of-lt}
 use native.Mathlib.Omega.{arith}
 use mathlib.Core.Path.{_≡_, refl, sym, ap, _∙_}
-use mathlib.Core.Bool.{Bool, true, false, cond, _&&_, _||_, and-eq-true-iff}
+use mathlib.Core.Bool.{Bool, true, false, cond, _&&_, and-eq-true-iff}
 use mathlib.Core.List.{List, [], _∷_}
 use lib.ListN.{length, getD, set}
 use lib.Seq.{set-getD}
@@ -11,7 +11,7 @@ use Rattle.object.specs.Each.{Each}
 use Rattle.object.specs.declared.Kind.{Kind}
 use Rattle.machine.specs.declared.Field.the-variants.{Wait}
 use Rattle.machine.specs.declared.Event.{Event}
-use Rattle.machine.specs.declared.Event.the-variants.{Blank, Swaps, TurnBegins, Applies, Returns, Spins}
+use Rattle.machine.specs.declared.Event.the-variants.{Blank, CallBegins, Swaps, TurnBegins, Applies, Returns, Spins}
 use Rattle.machine.specs.declared.NodeId.{NodeId}
 use Rattle.machine.specs.declared.Row.{Row}
 use Rattle.machine.specs.declared.ThreadId.{ThreadId}
@@ -43,6 +43,7 @@ pub record Unnoted (event : Event) : Type 0 where
   pub no-swap : sameEvent event Swaps ≡ false
   pub no-turn : sameEvent event TurnBegins ≡ false
   pub no-serving : sameEvent event Applies ≡ false
+  pub no-begin : sameEvent event CallBegins ≡ false
   pub no-return : sameEvent event Returns ≡ false
 
 -- an entry that changes nothing but the counts: they are these after it
@@ -65,7 +66,7 @@ blankMore c = record { records = c .records; turns = c .turns; blanks = c .blank
 
 pub blank-quiet : (s : State) (t : ThreadId) → sameEvent (row s t .event) Blank ≡ true → Quiet s t (blankMore (s .counts))
 blank-quiet s t blank = record {
-  unnoted = rw none (record { no-swap = refl; no-turn = refl; no-serving = refl; no-return = refl });
+  unnoted = rw none (record { no-swap = refl; no-turn = refl; no-serving = refl; no-begin = refl; no-return = refl });
   effect-same = ap (λ (l : Line). executed (named s t) (node s t) (s .tail) (s .h) (request s t) (applied s t .answer) l) none;
   references-same = no-reference;
   counted = rw (no-reference, none) (simp add-zero);
@@ -116,7 +117,7 @@ module _ (s : State) (t : ThreadId) (sound : Sound s) (small : t .0 < s .n) (spi
 
   pub spin-quiet : Quiet s t (spinMore (s .counts))
   spin-quiet = record {
-    unnoted = rw spins-now (record { no-swap = refl; no-turn = refl; no-serving = refl; no-return = refl });
+    unnoted = rw spins-now (record { no-swap = refl; no-turn = refl; no-serving = refl; no-begin = refl; no-return = refl });
     effect-same =
         ap (λ (l : Line). executed (named s t) (node s t) (s .tail) (s .h) (request s t) (applied s t .answer) l) nine
         ∙ rw (spinning .waits, ← stands);
@@ -131,11 +132,10 @@ quiet-entered s t q =
     let nodes = set-getD (s .nodes) (target s t .0) zeroNode in
     rw (q .counted, q .effect-same, q .references-same, threads, nodes, q .unnoted .no-serving)
 
--- what is kept of the call stays where no reference is remote and the call does not return
-kept-same : {event : Event} {remote : ℕ} (kept : Kept) → Unnoted event → remote ≡ 0 → kept .remote < 2 ^ 32 → afterEntry kept event remote ≡ kept
-kept-same kept u none fits =
-    let same : Bool → Kept = λ test. record { mark = kept .mark; server = kept .server; value = kept .value; remote = kept .remote; returned = test || kept .returned; turn = kept .turn } in
-    rw (none, add-zero, mod-eq-of-lt fits) (ap same (u .no-return))
+-- what is kept of the call stays where no reference is remote and the call neither begins nor returns
+kept-same : {event : Event} {remote : ℕ} (number : ℕ) (kept : Kept) → Unnoted event → remote ≡ 0 → kept .remote < 2 ^ 32
+    → afterEntry kept event remote number ≡ kept
+kept-same number kept u none fits = rw (none, add-zero, mod-eq-of-lt fits, u .no-begin, u .no-return)
 
 module _ {bytes : List ℕ} {start : State} {rows : List Row} {n h capacity i : ℕ} {kind : Kind} {s : State} {kept : List Kept} {order given turns : List ℕ} {counts : Counts}
     (x : Looping bytes start rows n h kind capacity i s kept order given turns) (inside : i < length bytes) (q : Quiet s (threadId (getD bytes i 0)) counts) where
@@ -158,14 +158,14 @@ module _ {bytes : List ℕ} {start : State} {rows : List Row} {n h capacity i : 
       rw (run .tables .calls (place s t) (call-below (x .file) bytes (x .fits) run inside))
       (cost-fits (run .past) (run .going .counted .few) (omega (arith, short)) (callAt (place s t)))
 
-  calls-same : servedCalls s t unkept given turns (enteredCalls s t unkept kept) ≡ kept
+  calls-same : servedCalls s t unkept given turns (enteredCalls s t (length (run .past)) unkept kept) ≡ kept
   calls-same =
       let own = place s t in
       let their = served s t given in
-      let kept′ = enteredCalls s t unkept kept in
+      let kept′ = enteredCalls s t (length (run .past)) unkept kept in
       let none = ap (λ (r : Referred). r .remote) (q .references-same) in
       ap (set kept′ their) (rw (q .unnoted .no-serving)) ∙ set-getD kept′ their unkept
-      ∙ ap (set kept own) (kept-same (getD kept own unkept) (q .unnoted) none remote-fits) ∙ set-getD kept own unkept
+      ∙ ap (set kept own) (kept-same (length (run .past)) (getD kept own unkept) (q .unnoted) none remote-fits) ∙ set-getD kept own unkept
 
   -- one more quiet entry
   pub looping-quiet : Looping bytes start rows n h kind capacity (i + 1) (changed s (s .object) counts) kept order given turns

@@ -3,7 +3,7 @@
 use Prim.Native.Nat.{ℕ, _+_, _-_, _*_, _%_, _≤_, _<_}
 use native.Mathlib.Numerals.{add-one}
 use native.Mathlib.Omega.{arith}
-use mathlib.Core.Path.{_≡_, refl, sym, ap, _∙_}
+use mathlib.Core.Path.{_≡_, refl, sym, ap, subst, _∙_}
 use mathlib.Core.Bool.{Bool, true, false, cond}
 use mathlib.Core.List.{List, [], _∷_, map, reverseAux}
 use lib.ListN.{length, getD, set, drop, replicate, drop-of-length-le}
@@ -58,6 +58,8 @@ pub record Running (f : Fields) (bytes : List ℕ) (i : ℕ) (s : State) (kept :
   pub going : Going f s past
   pub layers : Layers f s past
   pub tables : Tables past kept order given turns
+  -- the number of the next entry is its place in the schedule
+  pub numbered : length past ≡ i
   -- threads below n, and the entries that end the run
   pub left : Each (λ t. t < f .head .n) (drop i bytes)
   pub short : length past + length (drop i bytes) ≤ 32768
@@ -78,6 +80,7 @@ module _ (f : Fields) (bytes : List ℕ) (fits : InRange f) where
         going = fresh .0;
         layers = fresh .1;
         tables = tables-start;
+        numbered = refl;
         left = rw e (fits .schedule);
         short = rw e (omega (arith, fits .entries));
         ends = rw e;
@@ -104,6 +107,9 @@ module _ (f : Fields) (bytes : List ℕ) (fits : InRange f) where
 
     pub few : length (x .past) < 32768
     few = omega (arith, ap length here, x .short)
+
+    pub number-few : i < 32768
+    number-few = omega (arith, few, x .numbered)
 
     -- the numbers that the entry reads are within the arrays
     pub thread-few : t .0 < 16
@@ -138,7 +144,7 @@ module _ (f : Fields) (bytes : List ℕ) (fits : InRange f) where
       pub of-turns : turns′ ≡ cond (sameEvent ev TurnBegins) (set turns (t .0) (s .counts .turns % 65536)) turns
       pub of-given : given′ ≡ cond (sameEvent ev Swaps) (set given (s .tail .0) (call % 65536)) given
       pub of-order : order′ ≡ cond (sameEvent ev Swaps) (set order (s .counts .records) (call % 65536)) order
-      pub of-mine : mine ≡ afterEntry (getD kept call d) ev remote
+      pub of-mine : mine ≡ afterEntry (getD kept call d) ev remote i
       pub of-theirs : theirs ≡ afterServing (getD (set kept call mine) served d) applies answer t (getD turns (t .0) 0)
 
     stay : takesOut (named s t) (node s t) (s .h) (line s t) ≡ false
@@ -151,12 +157,13 @@ module _ (f : Fields) (bytes : List ℕ) (fits : InRange f) where
     their-below = served-below f fits s (x .past) t below (x .going) (x .layers) few (x .tables)
 
     pub running-next : (d : Kept)
-        → Running f bytes (i + 1) (entered s t) (servedCalls s t d given turns (enteredCalls s t d kept)) (orderAfter s t order) (givenAfter s t given) (turnsAfter s t turns)
+        → Running f bytes (i + 1) (entered s t) (servedCalls s t d given turns (enteredCalls s t (length (x .past)) d kept)) (orderAfter s t order) (givenAfter s t given) (turnsAfter s t turns)
     running-next d = record {
       past = entryOf s t ∷ x .past;
       going = going-next f s (x .past) t below few stay (x .going);
       layers = layers-next f fits s (x .past) t below (x .going) (x .layers);
       tables = tables-next f fits s (x .past) t below (x .going) (x .layers) few (x .tables) d room;
+      numbered = omega (arith, x .numbered);
       left = each .1;
       short = omega (arith, ap length here, x .short);
       ends = ends-next;
@@ -198,8 +205,9 @@ module _ (f : Fields) (bytes : List ℕ) (fits : InRange f) where
           let after = entered-by s t shape range below called is-effect (sum ∙ fits-wrapped _ fits-counts) in
           let at = is-call (b .of-call) in
           let to = is-served (b .of-call) (b .of-applies) (b .of-served) in
-          let own : mine ≡ afterEntry (getD kept (place s t) d) (event s t) (references s t .remote) = rw (is-the-event, is-remote, at) at (b .of-mine) in
-          let other : theirs ≡ afterServing (getD (enteredCalls s t d kept) (served s t given) d) (sameEvent (event s t) Applies) (applied s t .answer) t (getD turns (t .0) 0) =
+          let Own : ℕ → Type 0 = λ number. mine ≡ afterEntry (getD kept (place s t) d) (event s t) (references s t .remote) number in
+          let own : Own (length (x .past)) = subst Own (sym (x .numbered)) (rw (is-the-event, is-remote, at) at (b .of-mine)) in
+          let other : theirs ≡ afterServing (getD (enteredCalls s t (length (x .past)) d kept) (served s t given) d) (sameEvent (event s t) Applies) (applied s t .answer) t (getD turns (t .0) 0) =
           rw (b .of-applies, is-the-event, is-applied s t shape range below called, own, at, to) at (b .of-theirs) in
           rw (
             after,

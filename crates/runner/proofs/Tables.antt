@@ -3,7 +3,7 @@ use Prim.Native.Nat.{ℕ, _+_, _-_, _*_, _%_, _^_, _≤_, _<_}
 use native.Mathlib.Omega.{arith}
 use native.Mathlib.Nat.{mod-eq-of-lt, div-add-mod}
 use mathlib.Core.Path.{_≡_, refl, sym, ap, ap₂, subst, _∙_}
-use mathlib.Core.Bool.{and-false, Bool, true, false, cond, _&&_, _||_}
+use mathlib.Core.Bool.{and-false, Bool, true, false, cond, _&&_}
 use mathlib.Core.List.{List, [], _∷_, _++_, map, map-append, append-nil}
 use lib.ListN.{length, getD, set, replicate, length-map, length-set, getD-replicate}
 use lib.Seq.{getD-set-same, getD-set-other, set-getD}
@@ -18,7 +18,7 @@ use Rattle.machine.specs.declared.Thread.{Thread}
 use Rattle.machine.specs.declared.RetVal.{RetVal}
 use Rattle.machine.specs.declared.RetVal.the-variants.{NoAnswer, Answered}
 use Rattle.machine.specs.declared.Event.{Event}
-use Rattle.machine.specs.declared.Event.the-variants.{Blank, Swaps, TurnBegins, Applies, Returns}
+use Rattle.machine.specs.declared.Event.the-variants.{Blank, CallBegins, Swaps, TurnBegins, Applies, Returns}
 use Rattle.machine.specs.Lines.{Line, Access, lineOf, rowOf, eventIn, eventNumber, sameEvent, accessesOf}
 use Rattle.machine.specs.Sizes.{mostCalls, mostNodes}
 use Rattle.copies.specs.Remote.{referred}
@@ -35,7 +35,7 @@ use Rattle.object.specs.Each.{Each}
 use Rattle.object.proofs.Choice.{by-equal}
 use Rattle.object.proofs.Each.{each-map}
 use Rattle.history.specs.Entries.{Entry, threadId, is, Is, howMany}
-use Rattle.history.specs.Terms.{Call, Serving, Shown, noThread, noCall, noTurn, callOf, same, swapOrder, callAssigned, turnOf, servingOf, servings, costOf, returned, shown, unshown, shownOf, retMark, retValue}
+use Rattle.history.specs.Terms.{Call, Serving, Shown, noThread, noCall, noTurn, callOf, same, swapOrder, callAssigned, turnOf, servingOf, servings, costOf, numberOf, beganAt, endedAt, shown, unshown, shownOf}
 use Rattle.history.specs.Method.{Moves}
 use Rattle.history.specs.History.{nodeId, lastOf, Swapped}
 use Rattle.history.proofs.OfCall.{call, same-itself, not-same, blank-of-none, not-of, is-of, left, added}
@@ -54,7 +54,7 @@ use Rattle.claims.proofs.Seen.{seenOf, positionsOf}
 use Rattle.claims.proofs.Steps.{one-sound}
 use Rattle.claims.proofs.Told.{tells-of}
 use Rattle.kept.specs.declared.Kept.{Kept}
-use Rattle.kept.specs.Kept.{placeOf, callAt, keptOf, unkept, afterEntry, afterServing}
+use Rattle.kept.specs.Kept.{placeOf, callAt, keptBy, keptOf, unkept, afterEntry, afterServing}
 
 -- what the arrays say of the entries so far, the latest first
 pub record Tables (past : List Entry) (kept : List Kept) (order given turns : List ℕ) : Type 0 where
@@ -109,9 +109,10 @@ module _ (c : Call) (w : Serving) where
       by-test true on p = absurd (omega (arith, each .0, ap (λ (z : Shown). z .server .0) p))
       by-test false on p = on p
 
--- what is kept of a call, by how it was served, its remote references and whether it has returned
-abbrev keptBy : Shown → ℕ → Bool → Kept
-keptBy w remote returned = record { mark = retMark (w .ret); server = w .server .0; value = retValue (w .ret); remote = remote; returned = returned; turn = w .turn }
+-- what is kept of equal numbers is equal
+kept-alike : (w : Shown) {remote remote′ began began′ ended ended′ : ℕ} → remote ≡ remote′ → began ≡ began′ → ended ≡ ended′
+    → keptBy w remote began ended ≡ keptBy w remote′ began′ ended′
+kept-alike w r b e = rw (r, b, e)
 
 module _ (s : State) (t : ThreadId) where
   -- the place of the entry's call, and of the call that it serves if it does
@@ -121,9 +122,9 @@ module _ (s : State) (t : ThreadId) where
   abbrev pub served : List ℕ → ℕ
   served given = cond (sameEvent (event s t) Applies) (getD given (target s t .0) 0) place
 
-  -- the arrays after the entry; d stands for the places past the calls'
-  abbrev pub enteredCalls : Kept → List Kept → List Kept
-  enteredCalls d kept = set kept place (afterEntry (getD kept place d) (event s t) (references s t .remote))
+  -- the arrays after the entry, which has a number; d stands for the places past the calls'
+  abbrev pub enteredCalls : ℕ → Kept → List Kept → List Kept
+  enteredCalls number d kept = set kept place (afterEntry (getD kept place d) (event s t) (references s t .remote) number)
 
   abbrev pub servedCalls : Kept → List ℕ → List ℕ → List Kept → List Kept
   servedCalls d given turns kept =
@@ -169,7 +170,7 @@ module _ (f : Fields) (fits : InRange f) (s : State) (past : List Entry) (t : Th
   call-place : placeOf (callOf e past) ≡ place s t
   call-place = sym (place-there (place s t) (callOf e past) place-call)
 
-  -- what the entry adds to its call: remote references, which fit 32 bits, and its end
+  -- what the entry adds to its call: remote references, which fit 32 bits
   adds : costOf (callOf e past) past + references s t .remote ≡ costOf (callOf e past) (e ∷ past)
   adds =
       let c = callOf e past in
@@ -183,25 +184,31 @@ module _ (f : Fields) (fits : InRange f) (s : State) (past : List Entry) (t : Th
       ap (λ (k : ℕ). k % 2 ^ 32) adds
       ∙ mod-eq-of-lt (cost-fits (e ∷ past) (counted-next s past t (going .counted) .few) (omega arith) (callOf e past))
 
-  ends : (is Returns e || returned (callOf e past) past) ≡ returned (callOf e past) (e ∷ past)
-  ends =
+  -- and its number, where it is such an event
+  numbers-it : (told : Event) → (Is told e → Is Blank e → ⊥) → cond (is told e) (length past) (numberOf told (callOf e past) past) ≡ numberOf told (callOf e past) (e ∷ past)
+  numbers-it told apart =
       let c = callOf e past in
       by-event e Blank
-      (λ q. ap (λ (b : Bool). b || returned c past) (is-not e Returns (λ z. omega arith)) ∙ sym (left e past c (blank-of-none e past c q) .returned))
-      (λ q. sym (added e past c (is-of e past q) .returned))
+      (λ q. ap (λ (b : Bool). cond b (length past) (numberOf told c past)) (is-not e told (λ z. apart z q)) ∙ sym (left e past c (blank-of-none e past c q) .number told))
+      (λ q. sym (added e past c (is-of e past q) .number told))
 
-  -- what is kept of a call after the entry, before the serving
+  -- what is kept of a call after the entry, with how it was served
+  abbrev keptNow : Shown → Call → Kept
+  keptNow w c = keptBy w (costOf c (e ∷ past)) (beganAt c (e ∷ past)) (endedAt c (e ∷ past))
+
+  -- and before the serving
   abbrev between : Call → Kept
-  between c = keptBy (shownOf c (servings past)) (costOf c (e ∷ past)) (returned c (e ∷ past))
+  between c = keptNow (shownOf c (servings past)) c
 
-  between-own : (k : Kept) → k ≡ keptOf past (callOf e past) → afterEntry k (event s t) (references s t .remote) ≡ between (callOf e past)
+  between-own : (k : Kept) → k ≡ keptOf past (callOf e past) → afterEntry k (event s t) (references s t .remote) (length past) ≡ between (callOf e past)
   between-own k is =
-      ap (λ (k : Kept). afterEntry k (event s t) (references s t .remote)) is ∙ ap₂ (keptBy (shownOf (callOf e past) (servings past))) adds-fit ends
+      ap (λ (k : Kept). afterEntry k (event s t) (references s t .remote) (length past)) is
+      ∙ kept-alike (shownOf (callOf e past) (servings past)) adds-fit (numbers-it CallBegins (λ q z. omega arith)) (numbers-it Returns (λ q z. omega arith))
 
   between-other : (c : Call) → (c ≡ callOf e past → ⊥) → keptOf past c ≡ between c
   between-other c apart =
       let same = left e past c (not-of e past c apart) in
-      ap₂ (keptBy (shownOf c (servings past))) (sym (same .cost)) (sym (same .returned))
+      kept-alike (shownOf c (servings past)) (sym (same .cost)) (sym (same .number CallBegins)) (sym (same .number Returns))
 
   -- what the entry is decides a test
   if-is : {A : Type 0} (told : Event) (x y : A) → Is told e → cond (is told e) x y ≡ x
@@ -210,8 +217,8 @@ module _ (f : Fields) (fits : InRange f) (s : State) (past : List Entry) (t : Th
   if-not : {A : Type 0} (told : Event) (x y : A) → (Is told e → ⊥) → cond (is told e) x y ≡ y
   if-not told x y q = ap (λ (b : Bool). cond b x y) (is-not e told q)
 
-  by-test : {A : Type 0} (P : A → Type 0) (told : Event) (x y : A) → (Is told e → P x) → ((Is told e → ⊥) → P y) → P (cond (is told e) x y)
-  by-test P told x y on off = by-event e told (λ q. subst P (sym (if-is told x y q)) (on q)) (λ q. subst P (sym (if-not told x y q)) (off q))
+  by-told : {A : Type 0} (P : A → Type 0) (told : Event) (x y : A) → (Is told e → P x) → ((Is told e → ⊥) → P y) → P (cond (is told e) x y)
+  by-told P told x y on off = by-event e told (λ q. subst P (sym (if-is told x y q)) (on q)) (λ q. subst P (sym (if-not told x y q)) (off q))
 
   -- and with it what the entry adds to a list in order of time
   one-more : {A : Type 0} (told : Event) (l : List A) (x : A) → Is told e → l ++ cond (is told e) (x ∷ []) [] ≡ l ++ x ∷ []
@@ -221,8 +228,8 @@ module _ (f : Fields) (fits : InRange f) (s : State) (past : List Entry) (t : Th
   no-more {A} told l x q = ap (λ (z : List A). l ++ z) (if-not told (x ∷ []) [] q) ∙ append-nil l
 
   -- what is kept of a call once it is known how it was served
-  known : (c : Call) (w : Shown) → shownOf c (servings (e ∷ past)) ≡ w → keptBy w (costOf c (e ∷ past)) (returned c (e ∷ past)) ≡ keptOf (e ∷ past) c
-  known c w is = ap (λ (w : Shown). keptBy w (costOf c (e ∷ past)) (returned c (e ∷ past))) (sym is)
+  known : (c : Call) (w : Shown) → shownOf c (servings (e ∷ past)) ≡ w → keptNow w c ≡ keptOf (e ∷ past) c
+  known c w is = ap (λ (w : Shown). keptNow w c) (sym is)
 
   not-serving : (Is Applies e → ⊥) → (c : Call) → between c ≡ keptOf (e ∷ past) c
   not-serving q c = known c _ (ap (shownOf c) (no-more Applies (servings past) (servingOf e past) q))
@@ -266,7 +273,7 @@ module _ (f : Fields) (fits : InRange f) (s : State) (past : List Entry) (t : Th
     serving-own : (k : Kept) → k ≡ between (w .call)
         → afterServing k (is Applies e) (applied s t .answer) t (turnOf t past) ≡ keptOf (e ∷ past) (w .call)
     serving-own k is =
-        if-is Applies _ k q ∙ ap (λ (k : Kept). keptBy shows (k .remote) (k .returned)) is
+        if-is Applies _ k q ∙ ap (λ (k : Kept). keptBy shows (k .remote) (k .began) (k .ended)) is
         ∙ known (w .call) shows
         (shown-more (w .call) ∙ shown-now (w .call) w (servings past) servers unserved ∙ ap (λ (b : Bool). cond b (shown w) unshown) (same-itself (w .call)) ∙ shown-so)
 
@@ -309,7 +316,7 @@ module _ (f : Fields) (fits : InRange f) (s : State) (past : List Entry) (t : Th
 
     nodes-next : (m : ℕ) → m < mostNodes → getD (givenAfter s t given) m 0 ≡ placeOf (callAssigned (nodeId m) (e ∷ past))
     nodes-next m b =
-        by-test (λ (l : List ℕ). getD l m 0 ≡ placeOf (callAssigned (nodeId m) (e ∷ past))) Swaps _ given
+        by-told (λ (l : List ℕ). getD l m 0 ≡ placeOf (callAssigned (nodeId m) (e ∷ past))) Swaps _ given
         (λ q.
         let assigned : e .node .0 ≡ s .tail .0 = tells-of s t .given q in
         set-all (λ m k. k ≡ placeOf (callAssigned (nodeId m) (e ∷ past))) given (s .tail .0) _ 0 (omega (arith, tail-below, tables .nodes-long))
@@ -321,7 +328,7 @@ module _ (f : Fields) (fits : InRange f) (s : State) (past : List Entry) (t : Th
 
     threads-next : (u : ℕ) → u < 16 → getD (turnsAfter s t turns) u 0 ≡ turnOf (threadId u) (e ∷ past)
     threads-next u b =
-        by-test (λ (l : List ℕ). getD l u 0 ≡ turnOf (threadId u) (e ∷ past)) TurnBegins _ turns
+        by-told (λ (l : List ℕ). getD l u 0 ≡ turnOf (threadId u) (e ∷ past)) TurnBegins _ turns
         (λ q.
         set-all (λ u k. k ≡ turnOf (threadId u) (e ∷ past)) turns (t .0) _ 0 (omega (arith, few, tables .threads-long))
         (turns-begun ∙ sym (turn-by (t .0) true (rw (is-so e TurnBegins q, eq-eqb (t .0) (t .0) refl))))
@@ -332,7 +339,7 @@ module _ (f : Fields) (fits : InRange f) (s : State) (past : List Entry) (t : Th
     swaps-next : (Is Swaps e → s .counts .records < mostCalls) → orderAfter s t order ≡ filled mostCalls 0 (map placeOf (swapOrder (e ∷ past)))
     swaps-next room =
         let places = map placeOf (swapOrder past) in
-        by-test (λ (l : List ℕ). l ≡ filled mostCalls 0 (map placeOf (swapOrder (e ∷ past)))) Swaps _ order
+        by-told (λ (l : List ℕ). l ≡ filled mostCalls 0 (map placeOf (swapOrder (e ∷ past)))) Swaps _ order
         (λ q.
         ap₂ (λ (l : List ℕ) (i : ℕ). set l i (place s t % 65536)) (tables .swaps) swaps-counted
         ∙ ap (set (filled mostCalls 0 places) (length places)) (mod-eq-of-lt (omega (arith, place-below)) ∙ sym call-place)
@@ -343,7 +350,7 @@ module _ (f : Fields) (fits : InRange f) (s : State) (past : List Entry) (t : Th
     -- d stands for the places past the calls', which nothing reads
     module _ (d : Kept) where
       abbrev kept′ : List Kept
-      kept′ = enteredCalls s t d kept
+      kept′ = enteredCalls s t (length past) d kept
 
       entered-long : length kept′ ≡ mostCalls
       entered-long = length-set kept (place s t) _ ∙ tables .calls-long
@@ -380,11 +387,11 @@ module _ (f : Fields) (fits : InRange f) (s : State) (past : List Entry) (t : Th
 
       -- every entry keeps the tables
       pub tables-next : (Is Swaps (entryOf s t) → s .counts .records < mostCalls)
-          → Tables (entryOf s t ∷ past) (servedCalls s t d given turns (enteredCalls s t d kept)) (orderAfter s t order) (givenAfter s t given) (turnsAfter s t turns)
+          → Tables (entryOf s t ∷ past) (servedCalls s t d given turns (enteredCalls s t (length past) d kept)) (orderAfter s t order) (givenAfter s t given) (turnsAfter s t turns)
       tables-next room = record {
         calls-long = length-set kept′ (served s t given) _ ∙ entered-long;
-        nodes-long = by-test (λ (l : List ℕ). length l ≡ mostNodes) Swaps _ given (λ q. length-set given (s .tail .0) _ ∙ tables .nodes-long) (λ q. tables .nodes-long);
-        threads-long = by-test (λ (l : List ℕ). length l ≡ 16) TurnBegins _ turns (λ q. length-set turns (t .0) _ ∙ tables .threads-long) (λ q. tables .threads-long);
+        nodes-long = by-told (λ (l : List ℕ). length l ≡ mostNodes) Swaps _ given (λ q. length-set given (s .tail .0) _ ∙ tables .nodes-long) (λ q. tables .nodes-long);
+        threads-long = by-told (λ (l : List ℕ). length l ≡ 16) TurnBegins _ turns (λ q. length-set turns (t .0) _ ∙ tables .threads-long) (λ q. tables .threads-long);
         calls = calls-next;
         swaps = swaps-next room;
         nodes = nodes-next;

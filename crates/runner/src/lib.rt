@@ -103,7 +103,7 @@ fn from_start(schedule: &[u8], start: State) -> Played
             call,
         );
         let mine = kept[call];
-        kept[call] = kept::after_entry(mine, event, remote);
+        kept[call] = kept::after_entry(mine, event, remote, i as u32);
         let theirs = kept[served];
         kept[served] = kept::after_serving(theirs, applies, answer, thread, turn);
         i += 1;

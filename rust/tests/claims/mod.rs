@@ -1,17 +1,26 @@
-//! Demand 3 of document 01, so far as it can be seen from outside: evaluated on the records and
-//! counts that a bench returns for every cut of one schedule, and on the file's fields alone.
+//! Demand 3 of document 01 and what request No. 1 of document 02 adds to it, so far as they can be seen
+//! from outside: evaluated on the records and counts that a bench returns for every cut of one schedule,
+//! on the cuts themselves, and on the file's fields alone.
 
 use ccs::{Counts, Fields, RECORD_LENGTH};
 
-/// What the bench returned for the schedule cut to some length. The file's own schedule is not read.
+/// The bytes of a record.
+pub type RecordBytes = [u8; RECORD_LENGTH];
+
+/// Bytes 20 to 23 of the record of an open call.
+const OPEN: usize = 4_294_967_295;
+
+/// A schedule cut to some length, and what the bench returned for it. The file's own schedule is not read.
 #[derive(Debug, PartialEq, Eq, Clone, Copy)]
 pub struct After<'a> {
+    pub schedule: &'a [u8],
     pub counts: Counts,
-    pub records: &'a [[u8; RECORD_LENGTH]],
+    pub records: &'a [RecordBytes],
 }
 
 /// The claims on the empty cut.
 pub fn check_start(file: &Fields, after: &After) -> Result<(), String> {
+    claim(after.schedule.is_empty(), "the cut has no entry")?;
     claim(
         after.counts == Counts::default(),
         "all counts are 0 at the start",
@@ -21,7 +30,11 @@ pub fn check_start(file: &Fields, after: &After) -> Result<(), String> {
 
 /// The claims on one more entry, `before` having been checked: those on the new cut, and those on
 /// the step from one cut to the next.
-pub fn check_step(file: &Fields, before: &After, entry: u8, after: &After) -> Result<(), String> {
+pub fn check_step(file: &Fields, before: &After, after: &After) -> Result<(), String> {
+    let Some((&entry, earlier)) = after.schedule.split_last() else {
+        return Err("the cut has an entry".to_string());
+    };
+    claim(before.schedule == earlier, "the cut has one entry more")?;
     check_cut(file, after)?;
     check_counts(before, after)?;
     check_records(before, entry, after)?;
@@ -30,19 +43,25 @@ pub fn check_step(file: &Fields, before: &After, entry: u8, after: &After) -> Re
 
 /// The claims on one cut by itself.
 fn check_cut(file: &Fields, after: &After) -> Result<(), String> {
-    let After { counts, records } = *after;
+    let After {
+        schedule,
+        counts,
+        records,
+    } = *after;
     claim(
         records.len() == counts.records as usize,
         "as many records as Swaps counted",
     )?;
     check_calls(file, records)?;
+    check_ends(schedule, records)?;
+    check_precedence(records)?;
     check_answers(file, records)?;
     check_turns(file, &counts, records)?;
     check_costs(file, &counts, records)
 }
 
 /// Records name calls of the file, each once: a thread's calls in their order, one at a time.
-fn check_calls(file: &Fields, records: &[[u8; RECORD_LENGTH]]) -> Result<(), String> {
+fn check_calls(file: &Fields, records: &[RecordBytes]) -> Result<(), String> {
     let mut seen = [0; 16];
     let mut open = [false; 16];
     for record in records {
@@ -68,8 +87,52 @@ fn check_calls(file: &Fields, records: &[[u8; RECORD_LENGTH]]) -> Result<(), Str
     Ok(())
 }
 
+/// The two numbers of a record: a call begins with its thread's first entry, or with the first after
+/// the return of the call before; it returns with a later entry of its thread.
+fn check_ends(schedule: &[u8], records: &[RecordBytes]) -> Result<(), String> {
+    let mut idle_since = [0; 16];
+    for record in records {
+        let (began, ended) = (began(record), ended(record));
+        let idle = &mut idle_since[usize::from(record[0])];
+        claim(
+            schedule.get(began) == Some(&record[0]),
+            "a call begins with an entry of its thread",
+        )?;
+        claim(
+            began >= *idle,
+            "a thread's calls begin in order, each after the one before returned",
+        )?;
+        claim(
+            !schedule[*idle..began].contains(&record[0]),
+            "a call begins with its thread's first entry after the call before",
+        )?;
+        claim(
+            returned(record) == (ended != OPEN),
+            "bytes 20 to 23 are 4294967295 just while byte 12 is 0",
+        )?;
+        claim(
+            !returned(record) || (began < ended && schedule.get(ended) == Some(&record[0])),
+            "a call returns with a later entry of its thread",
+        )?;
+        *idle = ended + 1;
+    }
+    Ok(())
+}
+
+/// A call that returned before another began stands earlier in Swap order.
+fn check_precedence(records: &[RecordBytes]) -> Result<(), String> {
+    for (i, record) in records.iter().enumerate() {
+        let ended = ended(record);
+        claim(
+            !records[..=i].iter().any(|other| ended < began(other)),
+            "a call that returned before another began stands earlier in Swap order",
+        )?;
+    }
+    Ok(())
+}
+
 /// The applied requests are the first ones in Swap order, answered as by the plain object.
-fn check_answers(file: &Fields, records: &[[u8; RECORD_LENGTH]]) -> Result<(), String> {
+fn check_answers(file: &Fields, records: &[RecordBytes]) -> Result<(), String> {
     let mut object = Plain::new(file);
     let a = applied(records);
     for record in &records[..a] {
@@ -95,11 +158,7 @@ fn check_answers(file: &Fields, records: &[[u8; RECORD_LENGTH]]) -> Result<(), S
 
 /// Turns follow one another in Swap order; each has one server, which serves itself first, and
 /// serves at most h. Only the last turn begun may have served none yet.
-fn check_turns(
-    file: &Fields,
-    counts: &Counts,
-    records: &[[u8; RECORD_LENGTH]],
-) -> Result<(), String> {
+fn check_turns(file: &Fields, counts: &Counts, records: &[RecordBytes]) -> Result<(), String> {
     let a = applied(records);
     let mut turns = 0;
     let mut served = 0;
@@ -140,11 +199,7 @@ fn check_turns(
 }
 
 /// The bounds on a returned call, and what the total is beside the records' costs.
-fn check_costs(
-    file: &Fields,
-    counts: &Counts,
-    records: &[[u8; RECORD_LENGTH]],
-) -> Result<(), String> {
+fn check_costs(file: &Fields, counts: &Counts, records: &[RecordBytes]) -> Result<(), String> {
     let mut sum = 0;
     for (i, record) in records.iter().enumerate() {
         sum += u64::from(number(record, 8));
@@ -212,6 +267,10 @@ fn check_records(before: &After, entry: u8, after: &After) -> Result<(), String>
     let remote = after.counts.remote - before.counts.remote;
     for (i, (old, new)) in before.records.iter().zip(after.records).enumerate() {
         claim(old[..2] == new[..2], "thread and request of a record stay")?;
+        claim(
+            old[16..20] == new[16..20],
+            "the number of a call's line 1 stays",
+        )?;
         claim(old[12] <= new[12], "a returned call stays returned")?;
         if i != a {
             let same = old[2..8] == new[2..8] && old[13..15] == new[13..15];
@@ -226,9 +285,13 @@ fn check_records(before: &After, entry: u8, after: &After) -> Result<(), String>
                 cost == Some(number(new, 8)),
                 "an entry's remote references are its call's",
             )?;
+            claim(
+                !returned(new) || ended(new) == before.schedule.len(),
+                "the number of a return is that of its entry",
+            )?;
         } else {
             claim(
-                old[8..13] == new[8..13],
+                old[8..13] == new[8..13] && old[20..] == new[20..],
                 "an entry changes no other call's cost and return",
             )?;
         }
@@ -274,6 +337,13 @@ fn check_entry(file: &Fields, before: &After, entry: u8, after: &After) -> Resul
         )?;
         claim(record[2] == 255, "a record begins unserved")?;
         claim(!returned(record), "a record begins open")?;
+        let own_entries = after.schedule[began(record)..]
+            .iter()
+            .filter(|&&other| other == entry);
+        claim(
+            own_entries.count() == 5,
+            "a call's Swap is its fifth entry, and its line 1 the first",
+        )?;
         claim(
             number(record, 8) <= 4,
             "a call costs at most 4 up to its Swap",
@@ -323,12 +393,12 @@ fn grows(old: u32, new: u32, most: u32) -> bool {
 }
 
 /// How many requests are applied: the records before the first that isn't.
-fn applied(records: &[[u8; RECORD_LENGTH]]) -> usize {
+fn applied(records: &[RecordBytes]) -> usize {
     records.iter().take_while(|record| record[2] != 255).count()
 }
 
 /// How many turns have served.
-fn applied_turns(records: &[[u8; RECORD_LENGTH]]) -> u32 {
+fn applied_turns(records: &[RecordBytes]) -> u32 {
     let a = applied(records);
     if a == 0 {
         0
@@ -338,25 +408,35 @@ fn applied_turns(records: &[[u8; RECORD_LENGTH]]) -> u32 {
 }
 
 /// The record of the thread's call that is past its Swap and has not returned.
-fn open_call(records: &[[u8; RECORD_LENGTH]], thread: u8) -> Option<usize> {
+fn open_call(records: &[RecordBytes], thread: u8) -> Option<usize> {
     records
         .iter()
         .position(|record| record[0] == thread && !returned(record))
 }
 
 /// Whether all requests of the thread have returned.
-fn exhausted(file: &Fields, records: &[[u8; RECORD_LENGTH]], thread: u8) -> bool {
+fn exhausted(file: &Fields, records: &[RecordBytes], thread: u8) -> bool {
     let own = records
         .iter()
         .filter(|record| record[0] == thread && returned(record));
     own.count() == usize::from(file.counts[usize::from(thread)])
 }
 
-fn returned(record: &[u8; RECORD_LENGTH]) -> bool {
+fn returned(record: &RecordBytes) -> bool {
     record[12] == 1
 }
 
-fn turn(record: &[u8; RECORD_LENGTH]) -> u32 {
+/// The number of the entry that ran the call's line 1.
+fn began(record: &RecordBytes) -> usize {
+    number(record, 16) as usize
+}
+
+/// The number of the entry with which the call returned, `OPEN` while it has not.
+fn ended(record: &RecordBytes) -> usize {
+    number(record, 20) as usize
+}
+
+fn turn(record: &RecordBytes) -> u32 {
     u16::from_le_bytes([record[13], record[14]]).into()
 }
 
@@ -365,7 +445,7 @@ fn number(bytes: &[u8], at: usize) -> u32 {
 }
 
 /// The five bytes of the request that a record names.
-fn request<'a>(file: &Fields<'a>, record: &[u8; RECORD_LENGTH]) -> &'a [u8] {
+fn request<'a>(file: &Fields<'a>, record: &RecordBytes) -> &'a [u8] {
     let earlier = &file.counts[..usize::from(record[0])];
     let number = earlier
         .iter()

@@ -1,5 +1,5 @@
-//! An independent implementation of document 01 and of Algorithm 1 in source 004 (CC-Synch),
-//! written from these papers, with expected listings to try it on, and without the code that it is compared with.
+//! An independent implementation of document 01, with request No. 1 of document 02, and of Algorithm 1
+//! in source 004 (CC-Synch), written from these papers, with expected listings to try it on, and without the code that it is compared with.
 
 // Each user of this module needs only a part of it.
 #![allow(dead_code)]
@@ -128,7 +128,7 @@ const TAKE: u8 = 1;
 const ADD: u8 = 2;
 /// Bytes of a request, bytes of a record, most entries of a schedule.
 const REQUEST: usize = 5;
-const RECORD: usize = 16;
+const RECORD: usize = 24;
 const ENTRIES: usize = 32_768;
 
 /// A sound file, taken apart: `requests` has the bytes of each thread's requests.
@@ -392,7 +392,8 @@ impl Object {
 // ---- The machine ----
 
 /// A thread: `line` is the line to run next, 0 while idle; `node` is its own node, which is also
-/// nextNode up to line 7. The fields from `counter` on are those of its call.
+/// nextNode up to line 7. `begun` counts its calls. The fields from `counter` on are those of its call,
+/// `began` the place of the entry that ran line 1.
 #[derive(Clone, Copy)]
 struct Thread<'a> {
     requests: &'a [u8],
@@ -406,6 +407,7 @@ struct Thread<'a> {
     tmp_node_next: usize,
     turn: u16,
     record: u16,
+    began: u32,
     remote: u32,
 }
 
@@ -433,6 +435,7 @@ impl<'a> Machine<'a> {
             tmp_node_next: NULL,
             turn: 0,
             record: 0,
+            began: 0,
             remote: 0,
         };
         Machine {
@@ -453,16 +456,16 @@ impl<'a> Machine<'a> {
     }
 
     fn run(mut self, schedule: &[u8], out: &mut [u8]) -> Counts {
-        for &entry in schedule {
-            self.step(entry, out);
+        for (place, &entry) in schedule.iter().enumerate() {
+            self.step(place as u32, entry, out);
         }
         self.close(out);
         self.counts
     }
 
-    /// One entry: its thread executes one line.
+    /// One entry, at its place in the schedule: its thread executes one line.
     #[inline(always)]
-    fn step(&mut self, entry: u8, out: &mut [u8]) {
+    fn step(&mut self, place: u32, entry: u8, out: &mut [u8]) {
         let Machine {
             threads,
             nodes,
@@ -486,6 +489,7 @@ impl<'a> Machine<'a> {
             0 => {
                 thread.begun += 1;
                 thread.counter = 0;
+                thread.began = place;
                 thread.remote = 0;
                 line = 2;
             }
@@ -496,7 +500,7 @@ impl<'a> Machine<'a> {
                 thread.cur_node = tail.swap(thread.node, access);
                 thread.record = counts.records as u16;
                 counts.records += 1;
-                open(out, thread.record, entry, thread.begun - 1);
+                open(out, thread.record, entry, thread.begun - 1, thread.began);
             }
             6 => {
                 let request = Request::of(thread.requests, thread.begun - 1);
@@ -550,7 +554,8 @@ impl<'a> Machine<'a> {
             // 11 and 21: the call returns.
             _ => {
                 nodes[thread.cur_node].ret.read(access);
-                cost(out, thread.record, thread.remote + access.remote, true);
+                cost(out, thread.record, thread.remote + access.remote);
+                end(out, thread.record, place);
                 line = 0;
             }
         }
@@ -562,38 +567,47 @@ impl<'a> Machine<'a> {
     /// Writes the cost so far of the calls that are past their Swap and have not returned.
     fn close(&self, out: &mut [u8]) {
         for thread in self.threads.iter().filter(|thread| thread.line > 5) {
-            cost(out, thread.record, thread.remote, false);
+            cost(out, thread.record, thread.remote);
         }
     }
 }
 
 // ---- The record of a call ----
 
-/// Swap opens a record.
-fn open(out: &mut [u8], record: u16, thread: u8, request: u8) {
-    let at = RECORD * usize::from(record);
-    let fresh = [
-        thread, request, NONE, 255, 0, 0, 0, 0, 0, 0, 0, 0, 0, 255, 255, 0,
-    ];
-    out[at..at + RECORD].copy_from_slice(&fresh);
+/// Swap opens a record: unserved, of no cost yet, with the place of the call's line 1.
+fn open(out: &mut [u8], record: u16, thread: u8, request: u8, began: u32) {
+    let record = record_in(out, record);
+    record.fill(0);
+    record[..4].copy_from_slice(&[thread, request, NONE, 255]);
+    record[13..15].fill(255);
+    record[16..20].copy_from_slice(&began.to_le_bytes());
+    record[20..].fill(255);
 }
 
 /// Line 16 sets bytes 2 to 7 and 13 to 14.
 fn serve(out: &mut [u8], record: u16, (mark, value): (u8, u32), server: u8, turn: u16) {
-    let at = RECORD * usize::from(record);
-    let record = &mut out[at..at + RECORD];
+    let record = record_in(out, record);
     record[2] = mark;
     record[3] = server;
     record[4..8].copy_from_slice(&value.to_le_bytes());
     record[13..15].copy_from_slice(&turn.to_le_bytes());
 }
 
-/// Bytes 8 to 12: the call's remote references so far, and whether it has returned.
-fn cost(out: &mut [u8], record: u16, remote: u32, returned: bool) {
+/// Bytes 8 to 11: the call's remote references so far.
+fn cost(out: &mut [u8], record: u16, remote: u32) {
+    record_in(out, record)[8..12].copy_from_slice(&remote.to_le_bytes());
+}
+
+/// Lines 11 and 21 set byte 12 and bytes 20 to 23, the place of the return.
+fn end(out: &mut [u8], record: u16, place: u32) {
+    let record = record_in(out, record);
+    record[12] = 1;
+    record[20..].copy_from_slice(&place.to_le_bytes());
+}
+
+fn record_in(out: &mut [u8], record: u16) -> &mut [u8] {
     let at = RECORD * usize::from(record);
-    let record = &mut out[at..at + RECORD];
-    record[8..12].copy_from_slice(&remote.to_le_bytes());
-    record[12] = returned.into();
+    &mut out[at..at + RECORD]
 }
 
 // ---- The listing ----
@@ -635,11 +649,14 @@ fn line_of_record(text: &mut String, order: usize, record: &[u8]) {
     let server = or_hyphen(served, server.into());
     let turn = or_hyphen(served, u16::from_le_bytes([record[13], record[14]]).into());
     let remote = number_at(record, 8);
-    let state = if record[12] == 1 { "returned" } else { "open" };
+    let returned = record[12] == 1;
+    let state = if returned { "returned" } else { "open" };
+    let began = number_at(record, 16);
+    let ended = or_hyphen(returned, number_at(record, 20));
     // Writing to a string does not fail.
     let _ = writeln!(
         text,
-        "{order} {thread} {request} {word} {value} {server} {turn} {remote} {state}"
+        "{order} {thread} {request} {word} {value} {server} {turn} {remote} {state} {began} {ended}"
     );
 }
 

@@ -1,6 +1,7 @@
 -- `bench::record_bytes` meets its contract: the bytes of a record, one by one. Assumes nothing.
 use borrow.Author.Needs.{needs}
-use Rattle.bench_file.specs.Bytes.{lowFirst}
+use Rattle.kept.specs.Kept.{callAt}
+use Rattle.bench.proofs.Spelled.{record-spelled}
 use Rattle.bench.proofs.record_bytes.Statement.{statement}
 use Rattle.bench.proofs.record_bytes.Tie as tie
 
@@ -19,47 +20,81 @@ cast-low-first c = search needs
 low-first-requires-3 : tie.Need-low-first-requires-3
 low-first-requires-3 c κs = search needs
 
-cast-t10 : tie.Need-cast-t10
-cast-t10 c = search needs
+low-first-requires-4 : tie.Need-low-first-requires-4
+low-first-requires-4 c κs = search needs
+
+low-first-requires-5 : tie.Need-low-first-requires-5
+low-first-requires-5 c κs = search needs
 
 cast-t12 : tie.Need-cast-t12
 cast-t12 c = search needs
 
-array-read-t15 : tie.Need-array-read-t15
-array-read-t15 c = search needs
+cast-t14 : tie.Need-cast-t14
+cast-t14 c = search needs
 
-array-read-t18 : tie.Need-array-read-t18
-array-read-t18 c = search needs
+array-read-t17 : tie.Need-array-read-t17
+array-read-t17 c = search needs
 
-array-read-t21 : tie.Need-array-read-t21
-array-read-t21 c = search needs
+array-read-t20 : tie.Need-array-read-t20
+array-read-t20 c = search needs
 
-array-read-t24 : tie.Need-array-read-t24
-array-read-t24 c = search needs
+array-read-t23 : tie.Need-array-read-t23
+array-read-t23 c = search needs
 
-array-read-t27 : tie.Need-array-read-t27
-array-read-t27 c = search needs
+array-read-t26 : tie.Need-array-read-t26
+array-read-t26 c = search needs
 
-array-read-t30 : tie.Need-array-read-t30
-array-read-t30 c = search needs
+array-read-t29 : tie.Need-array-read-t29
+array-read-t29 c = search needs
 
-array-read-t33 : tie.Need-array-read-t33
-array-read-t33 c = search needs
+array-read-t32 : tie.Need-array-read-t32
+array-read-t32 c = search needs
 
-array-read-t36 : tie.Need-array-read-t36
-array-read-t36 c = search needs
+array-read-t35 : tie.Need-array-read-t35
+array-read-t35 c = search needs
 
-array-read-t39 : tie.Need-array-read-t39
-array-read-t39 c = search needs
+array-read-t38 : tie.Need-array-read-t38
+array-read-t38 c = search needs
 
-array-read-t42 : tie.Need-array-read-t42
-array-read-t42 c = search needs
+array-read-t41 : tie.Need-array-read-t41
+array-read-t41 c = search needs
+
+array-read-t44 : tie.Need-array-read-t44
+array-read-t44 c = search needs
+
+array-read-t47 : tie.Need-array-read-t47
+array-read-t47 c = search needs
+
+array-read-t50 : tie.Need-array-read-t50
+array-read-t50 c = search needs
+
+array-read-t53 : tie.Need-array-read-t53
+array-read-t53 c = search needs
+
+array-read-t56 : tie.Need-array-read-t56
+array-read-t56 c = search needs
+
+array-read-t59 : tie.Need-array-read-t59
+array-read-t59 c = search needs
+
+array-read-t62 : tie.Need-array-read-t62
+array-read-t62 c = search needs
+
+array-read-t65 : tie.Need-array-read-t65
+array-read-t65 c = search needs
+
+array-read-t68 : tie.Need-array-read-t68
+array-read-t68 c = search needs
 
 returns : tie.Need-returns
-unfolding lowFirst
 returns c =
-    let ended = c .before .before in
-    rw (ended .before .before .low-first .ensures, ended .before .low-first2 .ensures, ended .returned-byte .ensures, c .low-first3 .ensures)
+    let began = c .before in
+    let turn = began .before in
+    let returned = turn .before .before in
+    let remote = returned .before in
+    let given = remote .before .before .args in
+    record-spelled (callAt (given .place)) (given .kept) (remote .before .low-first .ensures) (remote .low-first2 .ensures) (returned .returned-byte .ensures) (turn .low-first3 .ensures)
+    (began .low-first4 .ensures) (c .low-first5 .ensures)
 
 pub record-bytes-spec : {M : Type 1} → statement M
 record-bytes-spec =
@@ -70,16 +105,26 @@ record-bytes-spec =
     returned-byte-requires
     cast-low-first
     low-first-requires-3
-    cast-t10
+    low-first-requires-4
+    low-first-requires-5
     cast-t12
-    array-read-t15
-    array-read-t18
-    array-read-t21
-    array-read-t24
-    array-read-t27
-    array-read-t30
-    array-read-t33
-    array-read-t36
-    array-read-t39
-    array-read-t42
+    cast-t14
+    array-read-t17
+    array-read-t20
+    array-read-t23
+    array-read-t26
+    array-read-t29
+    array-read-t32
+    array-read-t35
+    array-read-t38
+    array-read-t41
+    array-read-t44
+    array-read-t47
+    array-read-t50
+    array-read-t53
+    array-read-t56
+    array-read-t59
+    array-read-t62
+    array-read-t65
+    array-read-t68
     returns)

@@ -25,7 +25,7 @@ use Rattle.step.specs.Entry.{zeroNode, zeroSlot, named, target, servedBy, appli
 use Rattle.step.specs.Entry.{row as row-now}
 use Rattle.step.proofs.Entering.{is-target, Called}
 use Rattle.history.specs.Entries.{threadId}
-use Rattle.runner.proofs.Running.{Looping, below, thread-few, line-few, node-few, slot-few, call-below, their-below, is-call, is-served, Serves, serves-one, serves-none, looping-start, looping-next, looping-ends}
+use Rattle.runner.proofs.Running.{Looping, below, number-few, thread-few, line-few, node-few, slot-few, call-below, their-below, is-call, is-served, Serves, serves-one, serves-none, looping-start, looping-next, looping-ends}
 use Rattle.runner.proofs.Quiet.{Quiet, blank-quiet, Spinning, spinning, spinMore, spin-quiet, counts-fit, looping-quiet}
 use Rattle.runner.proofs.from_start.Statement.{statement}
 use Rattle.runner.proofs.from_start.Tie as tie
@@ -218,6 +218,13 @@ served-small c =
     let is = is-served _ _ (now .fits) (now .running) (at .loop-test .taken) (called (counted placing)) (placing .call-place2 .ensures) (placed (joined (counted placing)) .before .same-event3 .ensures) (c .served-place .ensures) in
     omega (arith, is, their-below _ _ (now .fits) (now .running) (at .loop-test .taken))
 
+-- the entry's number
+number-small : (c : tie.After-call-place2 Inv-loop μ-loop) → entry-of (counted c) .before .loop .i < 32768
+number-small c =
+    let at = entry-of (counted c) in
+    let now = at .before .loop .inv in
+    number-few _ _ (now .fits) (now .running) (at .loop-test .taken)
+
 all-rows-requires : tie.Need-all-rows-requires Inv-loop μ-loop
 all-rows-requires c κs = search needs
 
@@ -393,6 +400,9 @@ mul-mine c = omega (arith, call-small (c .before .before .before .before .before
 array-copy-out-mine : tie.Need-array-copy-out-mine Inv-loop μ-loop
 array-copy-out-mine c = call-small (c .before .before .before .before .before)
 
+cast-after-entry : tie.Need-cast-after-entry Inv-loop μ-loop
+cast-after-entry c = omega (arith, number-small (c .before .before .before .before .before .before))
+
 after-entry-requires : tie.Need-after-entry-requires Inv-loop μ-loop
 after-entry-requires c κs = search needs
 
@@ -511,6 +521,7 @@ from-start-spec =
     note-entry-requires
     mul-mine
     array-copy-out-mine
+    cast-after-entry
     after-entry-requires
     mul-kept
     array-set-from-kept

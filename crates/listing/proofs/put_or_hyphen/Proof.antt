@@ -1,10 +1,10 @@
--- `listing::put_served` meets its contract: a hyphen, or the number. Assumes nothing.
+-- `listing::put_or_hyphen` meets its contract: a hyphen, or the number. Assumes nothing.
 use native.Mathlib.Omega.{arith}
 use borrow.Author.Needs.{needs}
 use borrow.Author.Tests.{eq-eqb, ne-eqb}
 use Rattle.listing.proofs.Laid.{asked}
-use Rattle.listing.proofs.put_served.Statement.{statement}
-use Rattle.listing.proofs.put_served.Tie as tie
+use Rattle.listing.proofs.put_or_hyphen.Statement.{statement}
+use Rattle.listing.proofs.put_or_hyphen.Tie as tie
 
 slice-aggregate-put-text : tie.Need-slice-aggregate-put-text
 slice-aggregate-put-text c = search needs
@@ -30,8 +30,8 @@ same-length-2 c = search needs
 returns-2 : tie.Need-returns-2
 returns-2 c = rw (ne-eqb _ _ (c .before .before .before .before .before .if1 .left)) (c .before .before .put-named .ensures)
 
-pub put-served-spec : {M : Type 1} → statement M
-put-served-spec =
+pub put-or-hyphen-spec : {M : Type 1} → statement M
+put-or-hyphen-spec =
     tie.close
     (tie.spec
     slice-aggregate-put-text

@@ -1,10 +1,10 @@
--- `listing::put_end` meets its contract: one of two words. Assumes nothing.
+-- `listing::put_state` meets its contract: one of two words. Assumes nothing.
 use native.Mathlib.Omega.{arith}
 use borrow.Author.Needs.{needs}
 use borrow.Author.Tests.{eq-eqb, ne-eqb}
 use Rattle.listing.proofs.Laid.{asked}
-use Rattle.listing.proofs.put_end.Statement.{statement}
-use Rattle.listing.proofs.put_end.Tie as tie
+use Rattle.listing.proofs.put_state.Statement.{statement}
+use Rattle.listing.proofs.put_state.Tie as tie
 
 slice-aggregate-put-text : tie.Need-slice-aggregate-put-text
 slice-aggregate-put-text c = search needs
@@ -30,8 +30,8 @@ same-length-2 c = search needs
 returns-2 : tie.Need-returns-2
 returns-2 c = asked _ _ (c .before .before .put-text2 .ensures) (rw (ne-eqb _ _ (c .before .before .before .before .before .if1 .left))) (omega arith)
 
-pub put-end-spec : {M : Type 1} → statement M
-put-end-spec =
+pub put-state-spec : {M : Type 1} → statement M
+put-state-spec =
     tie.close
     (tie.spec
     slice-aggregate-put-text
