@@ -215,11 +215,11 @@ mod tests {
         for began in [515, 516] {
             assert_eq!(with_entry(RETURNED, 16, began), None);
         }
-        for ended in [0, 258, ENTRIES, OPEN] {
-            assert_eq!(with_entry(RETURNED, 20, ended), None);
+        for returned in [0, 258, ENTRIES, OPEN] {
+            assert_eq!(with_entry(RETURNED, 20, returned), None);
         }
-        for ended in [0, 515, ENTRIES, OPEN - 1] {
-            assert_eq!(with_entry(WAITING, 20, ended), None);
+        for returned in [0, 515, ENTRIES, OPEN - 1] {
+            assert_eq!(with_entry(WAITING, 20, returned), None);
         }
         let mut unserved = WAITING;
         unserved[12] = 1;

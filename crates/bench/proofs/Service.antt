@@ -19,7 +19,7 @@ use Rattle.bench_file.proofs.RoundTrip.{accepted-in-range}
 use Rattle.machine.specs.declared.Event.the-variants.{Swaps, Returns}
 use Rattle.machine.specs.Sizes.{mostCalls}
 use Rattle.history.specs.Entries.{Entry, howMany}
-use Rattle.history.specs.Terms.{Call, noCall, callOf, does, swapOrder, returned, noEntry, endedAt, recordLength, recordOf, recordsOf}
+use Rattle.history.specs.Terms.{Call, noCall, callOf, does, swapOrder, returned, noEntry, returnedAt, recordLength, recordOf, recordsOf}
 use Rattle.history.proofs.Places.{map-at}
 use Rattle.history.proofs.Sums.{one-each}
 use Rattle.history.proofs.Times.{number-below, number-none}
@@ -67,19 +67,19 @@ module _ (f : Fields) (fits : InRange f) where
       rw (List·getD-append (map placeOf (swapOrder history)) _ 0 i (omega (arith, swapped)), map-at placeOf (swapOrder history) i noCall 0 there)
       (omega (arith, each-getD Placed (swapOrder history) i noCall placed there))
 
-  -- a call has returned exactly if it has an end
-  has-ended : (c : Call) → not (eqb (endedAt c history) noEntry) ≡ returned c history
-  has-ended c =
+  -- a call has returned exactly if it has an entry for that
+  has-returned : (c : Call) → not (eqb (returnedAt c history) noEntry) ≡ returned c history
+  has-returned c =
       by-test (returned c history)
-      (λ z. rw (z, ne-eqb (endedAt c history) noEntry (λ e. omega (arith, number-below (does Returns c) history z, claim-whole f fits .entries-fit))))
-      (λ z. rw (z, eq-eqb (endedAt c history) noEntry (number-none (does Returns c) history z)))
+      (λ z. rw (z, ne-eqb (returnedAt c history) noEntry (λ e. omega (arith, number-below (does Returns c) history z, claim-whole f fits .entries-fit))))
+      (λ z. rw (z, eq-eqb (returnedAt c history) noEntry (number-none (does Returns c) history z)))
 
   -- what is kept at its place gives its record
   record-there : (c : Call) → Placed c → recordAt (playedOf f .kept) (placeOf c) ≡ recordOf history c
   record-there c b =
       ap (keptRecord (callAt (placeOf c))) (tabled-at (λ p. keptOf history (callAt p)) mostCalls (placeOf c) unkept (omega arith))
       ∙ ap (λ (c : Call). keptRecord c (keptOf history c)) (call-there c (b .1))
-      ∙ rw (has-ended c)
+      ∙ rw (has-returned c)
 
   records-there : recordsIn (howMany Swaps history) (playedOf f .kept) (playedOf f .order) ≡ recordsOf history
   records-there =

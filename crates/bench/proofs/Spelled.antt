@@ -18,9 +18,9 @@ two bytes = getD bytes 0 0 ∷ getD bytes 1 0 ∷ []
 abbrev four : List ℕ → List ℕ
 four bytes = two bytes ++ getD bytes 2 0 ∷ getD bytes 3 0 ∷ []
 
-pub record-spelled : (c : Call) (k : Kept) {value remote turn began ended : List ℕ} {over : ℕ}
-    → value ≡ lowFirst 4 (k .value) → remote ≡ lowFirst 4 (k .remote) → over ≡ oneIf (not (eqb (k .ended) noEntry)) → turn ≡ lowFirst 4 (k .turn)
-    → began ≡ lowFirst 4 (k .began) → ended ≡ lowFirst 4 (k .ended)
-    → c .thread .0 ∷ c .request ∷ k .mark ∷ k .server ∷ four value ++ four remote ++ over ∷ two turn ++ 0 ∷ four began ++ four ended ≡ keptRecord c k
+pub record-spelled : (c : Call) (k : Kept) {value remote turn began returned : List ℕ} {over : ℕ}
+    → value ≡ lowFirst 4 (k .value) → remote ≡ lowFirst 4 (k .remote) → over ≡ oneIf (not (eqb (k .returned) noEntry)) → turn ≡ lowFirst 4 (k .turn)
+    → began ≡ lowFirst 4 (k .began) → returned ≡ lowFirst 4 (k .returned)
+    → c .thread .0 ∷ c .request ∷ k .mark ∷ k .server ∷ four value ++ four remote ++ over ∷ two turn ++ 0 ∷ four began ++ four returned ≡ keptRecord c k
 unfolding lowFirst
 record-spelled c k v r o t b e = rw (v, r, o, t, b, e)

@@ -8,9 +8,9 @@ use Rattle.history.specs.Terms.{Call, noEntry, recordBytes}
 use Rattle.kept.specs.declared.Kept.{Kept}
 use Rattle.kept.specs.Kept.{callAt, unkept}
 
--- the record of a call, which has returned exactly if it has an end
+-- the record of a call, which has returned exactly if it has an entry for that
 abbrev pub keptRecord : Call → Kept → List ℕ
-keptRecord c k = recordBytes (c .thread .0) (c .request) (k .mark) (k .server) (k .value) (k .remote) (not (eqb (k .ended) noEntry)) (k .turn) (k .began) (k .ended)
+keptRecord c k = recordBytes (c .thread .0) (c .request) (k .mark) (k .server) (k .value) (k .remote) (not (eqb (k .returned) noEntry)) (k .turn) (k .began) (k .returned)
 
 -- the record of the call that has a place, and so many records in Swap order
 abbrev pub recordAt : List Kept → ℕ → List ℕ

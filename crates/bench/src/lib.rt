@@ -36,11 +36,11 @@ fn low_first(number: u32) -> [u8; 4]
     ]
 }
 
-// Byte 12 of a record: whether the call has an end.
-fn returned_byte(ended: u32) -> u8
-    ensures { λ r. ⌜ r ≡ oneIf (not (eqb ended noEntry)) ⌝ }
+// Byte 12 of a record: whether the call has an entry for its return.
+fn state_byte(returned: u32) -> u8
+    ensures { λ r. ⌜ r ≡ oneIf (not (eqb returned noEntry)) ⌝ }
 {
-    if ended == kept::NO_ENTRY { 0 } else { 1 }
+    if returned == kept::NO_ENTRY { 0 } else { 1 }
 }
 
 // The record of the call that has a place.
@@ -50,10 +50,10 @@ fn record_bytes(place: u16, kept: Kept) -> [u8; kept::RECORD_LENGTH]
 {
     let value = low_first(kept.value);
     let remote = low_first(kept.remote);
-    let returned = returned_byte(kept.ended);
+    let state = state_byte(kept.returned);
     let turn = low_first(kept.turn as u32);
     let began = low_first(kept.began);
-    let ended = low_first(kept.ended);
+    let returned = low_first(kept.returned);
     [
         (place / 16) as u8,
         (place % 16) as u8,
@@ -67,7 +67,7 @@ fn record_bytes(place: u16, kept: Kept) -> [u8; kept::RECORD_LENGTH]
         remote[1],
         remote[2],
         remote[3],
-        returned,
+        state,
         turn[0],
         turn[1],
         0,
@@ -75,10 +75,10 @@ fn record_bytes(place: u16, kept: Kept) -> [u8; kept::RECORD_LENGTH]
         began[1],
         began[2],
         began[3],
-        ended[0],
-        ended[1],
-        ended[2],
-        ended[3],
+        returned[0],
+        returned[1],
+        returned[2],
+        returned[3],
     ]
 }
 

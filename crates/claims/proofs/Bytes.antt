@@ -15,7 +15,7 @@ use Rattle.machine.specs.declared.RetVal.the-variants.{NoAnswer, Answered}
 use Rattle.step.specs.Entry.{oneIf}
 use Rattle.history.specs.Entries.{Entry}
 use Rattle.claims.specs.Claims.{RecordSized}
-use Rattle.history.specs.Terms.{Call, noTurn, servings, costOf, returned, noEntry, beganAt, endedAt, Shown, shownOf, retMark, retValue, recordOf, numberAt}
+use Rattle.history.specs.Terms.{Call, noTurn, servings, costOf, returned, noEntry, beganAt, returnedAt, Shown, shownOf, retMark, retValue, recordOf, numberAt}
 
 -- an answer's mark is not that of none
 pub mark-below : (a : Answer) → answerMark a < 255
@@ -49,9 +49,9 @@ module _ (history : List Entry) (c : Call) where
   unfolding lowFirst littleEndian
   server-byte = omega arith
 
-  pub returned-byte : number 12 1 ≡ oneIf (returned c history)
+  pub state-byte : number 12 1 ≡ oneIf (returned c history)
   unfolding lowFirst littleEndian
-  returned-byte = omega arith
+  state-byte = omega arith
 
   pub value-bytes : retValue (w .ret) < 2 ^ 32 → number 4 4 ≡ retValue (w .ret)
   unfolding lowFirst
@@ -69,6 +69,6 @@ module _ (history : List Entry) (c : Call) where
   unfolding lowFirst
   began-bytes fits = low-value 4 (beganAt c history) (omega arith)
 
-  pub ended-bytes : endedAt c history ≤ noEntry → number 20 4 ≡ endedAt c history
+  pub returned-bytes : returnedAt c history ≤ noEntry → number 20 4 ≡ returnedAt c history
   unfolding lowFirst
-  ended-bytes fits = low-value 4 (endedAt c history) (omega arith)
+  returned-bytes fits = low-value 4 (returnedAt c history) (omega arith)

@@ -33,7 +33,7 @@ use Rattle.step.proofs.Outcome.{thread-fits}
 use Rattle.invariant.specs.View.{viewOf}
 use Rattle.invariant.proofs.Feeding.{answers-take}
 use Rattle.history.specs.Entries.{Entry, threadId, is, howMany}
-use Rattle.history.specs.Terms.{Call, Serving, Shown, noThread, noCall, noTurn, does, swapOrder, swapAt, servings, shown, unshown, shownOf, retMark, retValue, numberAt, recordsOf, recordOf, costOf, returned, noEntry, numberOf, beganAt, swappedAt, endedAt, precedes, servingOf, callOf}
+use Rattle.history.specs.Terms.{Call, Serving, Shown, noThread, noCall, noTurn, does, swapOrder, swapAt, servings, shown, unshown, shownOf, retMark, retValue, numberAt, recordsOf, recordOf, costOf, returned, noEntry, numberOf, beganAt, swappedAt, returnedAt, precedes, servingOf, callOf}
 use Rattle.history.specs.History.{Settled, SwapTime}
 use Rattle.history.proofs.Places.{map-at}
 use Rattle.history.proofs.Shown.{record-at, applied, shown-each, shown-at, shown-none}
@@ -41,7 +41,7 @@ use Rattle.history.proofs.Sums.{one-each, cost-fits, tests-few, servings-few}
 use Rattle.history.proofs.Times.{number-below, number-none, number-most, by-numbers}
 use Rattle.history.proofs.Turns.{one-combiner}
 use Rattle.claims.specs.Claims.{RecordSized, ReturnedCall, Timed, Earlier, Claimed, HasAnswer, plainAnswers, askedOf, askedBy}
-use Rattle.claims.proofs.Bytes.{mark-below, record-sized, server-byte, returned-byte, turn-bytes, began-bytes, ended-bytes}
+use Rattle.claims.proofs.Bytes.{mark-below, record-sized, server-byte, state-byte, turn-bytes, began-bytes, returned-bytes}
 use Rattle.claims.proofs.Layers.{Layers, Bounded, jobsOf}
 use Rattle.claims.proofs.Meets.{one-turn}
 use Rattle.claims.proofs.Run.{Going}
@@ -159,8 +159,8 @@ module _ (f : Fields) (fits : InRange f) (s : State) (history : List Entry) (goi
       record {
         begins = o .began;
         swaps = o .done;
-        ends = λ z. (o .ended z, number-below (does Returns c) history z);
-        open-ended = number-none (does Returns c) history;
+        returns = λ z. (o .returned z, number-below (does Returns c) history z);
+        still-open = number-none (does Returns c) history;
       }
 
   -- and the numbers in their records
@@ -172,11 +172,11 @@ module _ (f : Fields) (fits : InRange f) (s : State) (history : List Entry) (goi
   in-record from width number of-call i b =
       ap (λ (bytes : List ℕ). numberAt bytes from width) (record-at history i noCall (swap-there i b)) ∙ of-call (swapAt history i)
 
-  began : (i : ℕ) → i < howMany Swaps history → numberAt (getD (recordsOf history) i []) 16 4 ≡ beganAt (swapAt history i) history
-  began = in-record 16 4 (λ c. beganAt c history) (λ c. began-bytes history c (number-fits c CallBegins))
+  began-at : (i : ℕ) → i < howMany Swaps history → numberAt (getD (recordsOf history) i []) 16 4 ≡ beganAt (swapAt history i) history
+  began-at = in-record 16 4 (λ c. beganAt c history) (λ c. began-bytes history c (number-fits c CallBegins))
 
-  ended : (i : ℕ) → i < howMany Swaps history → numberAt (getD (recordsOf history) i []) 20 4 ≡ endedAt (swapAt history i) history
-  ended = in-record 20 4 (λ c. endedAt c history) (λ c. ended-bytes history c (number-fits c Returns))
+  returned-at : (i : ℕ) → i < howMany Swaps history → numberAt (getD (recordsOf history) i []) 20 4 ≡ returnedAt (swapAt history i) history
+  returned-at = in-record 20 4 (λ c. returnedAt c history) (λ c. returned-bytes history c (number-fits c Returns))
 
   turn-fits : (c : Call) → shownOf c (servings history) .turn ≤ noTurn
   turn-fits c = shown-each (λ (w : Shown). w .turn ≤ noTurn) (omega arith) c (servings history) (servings-few history (going .short))
@@ -188,26 +188,26 @@ module _ (f : Fields) (fits : InRange f) (s : State) (history : List Entry) (goi
       let mine = now .calls .settled c (o .returned) in
       let inside : mine .position < now .ledger .s = omega (arith, mine .applied, now .control .order .applied) in
       let time : SwapTime history c = rw (mine .call noCall) at (now .times .swapped (mine .position) noCall inside) in
-      let less : swappedAt c history < swappedAt (swapAt history k) history = omega (arith, time .ended (o .returned), o .numbers, timed k b .begins) in
+      let less : swappedAt c history < swappedAt (swapAt history k) history = omega (arith, time .returned (o .returned), o .numbers, timed k b .begins) in
       by-order (mine .position) k (λ before. record { position = mine .position; before = before; call = mine .call noCall })
       (λ behind.
       by-equal k (mine .position)
       (λ same. let its : swapAt history k ≡ c = rw same (mine .call noCall) in absurd (omega (arith, less, ap (λ (c : Call). swappedAt c history) its)))
       (λ other. absurd (omega (arith, less, rw (mine .call noCall) at (now .times .in-time k (mine .position) noCall (omega arith) inside)))))
 
-  as-numbered : (c : Call) (k : ℕ) → k < howMany Swaps history → precedes c (swapAt history k) history ≡ ltb (endedAt c history) (beganAt (swapAt history k) history)
+  as-numbered : (c : Call) (k : ℕ) → k < howMany Swaps history → precedes c (swapAt history k) history ≡ ltb (returnedAt c history) (beganAt (swapAt history k) history)
   as-numbered c k b =
       let d = swapAt history k in
-      by-order (endedAt c history) (beganAt d history)
-      (λ less. by-numbers c d history (going .short) (omega (arith, timed k b .begins, timed k b .swaps)) less ∙ sym (lt-ltb (endedAt c history) (beganAt d history) less))
+      by-order (returnedAt c history) (beganAt d history)
+      (λ less. by-numbers c d history (going .short) (omega (arith, timed k b .begins, timed k b .swaps)) less ∙ sym (lt-ltb (returnedAt c history) (beganAt d history) less))
       (λ most.
       by-test (precedes c d history) (λ z. absurd (omega (arith, now .times .ordered c d z .numbers)))
-      (λ z. z ∙ sym (le-ltb (endedAt c history) (beganAt d history) most)))
+      (λ z. z ∙ sym (le-ltb (returnedAt c history) (beganAt d history) most)))
 
   by-records : (i k : ℕ) → i < howMany Swaps history → k < howMany Swaps history
       → numberAt (getD (recordsOf history) i []) 20 4 < numberAt (getD (recordsOf history) k []) 16 4 → i < k
   by-records i k b b′ z =
-      let less : endedAt (swapAt history i) history < beganAt (swapAt history k) history = omega (arith, ended i b, began k b′) in
+      let less : returnedAt (swapAt history i) history < beganAt (swapAt history k) history = omega (arith, returned-at i b, began-at k b′) in
       let o = precedence (swapAt history i) k b′ (as-numbered (swapAt history i) k b′ ∙ lt-ltb _ _ less) in
       by-order (o .position) i (λ low. absurd (now .swaps .once (o .position) i noCall low (omega (arith, swaps-done)) (o .call))) (λ high. omega (arith, o .before))
 
@@ -240,10 +240,10 @@ module _ (f : Fields) (fits : InRange f) (s : State) (history : List Entry) (goi
     cost = cost;
     cost-fits = cost-fits history (going .counted .few) (going .short);
     remote = now .said;
-    began = began;
-    ended = ended;
+    began-at = began-at;
+    returned-at = returned-at;
     timed = timed;
-    has-returned = in-record 12 1 (λ c. oneIf (returned c history)) (returned-byte history);
+    has-returned = in-record 12 1 (λ c. oneIf (returned c history)) (state-byte history);
     entries-fit = omega (arith, going .short);
     numbers-fit = number-fits;
     in-time = λ i k less b. now .times .in-time i k noCall less (omega (arith, swaps-done));

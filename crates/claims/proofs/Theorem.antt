@@ -25,7 +25,7 @@ use Rattle.claims.proofs.Cut.{entries-named, stopped, cut-in-range}
 use Rattle.claims.proofs.Parts.{claim}
 use Rattle.claims.proofs.Layers.{Layers, Bounded, asks, stays, layers-next}
 use Rattle.claims.proofs.Left.{closed}
-use Rattle.claims.proofs.Numbered.{began-there, ended-there}
+use Rattle.claims.proofs.Numbered.{began-there, returned-there}
 use Rattle.claims.proofs.Run.{Going, run-keeps, run-steps}
 use Rattle.claims.proofs.Start.{fresh-start, thread-start}
 use Rattle.history.proofs.Swaps.{swaps-fresh}
@@ -86,7 +86,7 @@ module _ (f : Fields) (fits : InRange f) where
             ap (map (λ (e : Entry). e .thread .0)) (reverse-reverse (take j (entriesOf f)) ∙ sym (stopped f j))
             ∙ entries-named (startOf f) (take j (f .schedule));
         began-there = λ c. began-there f over c j;
-        ended-there = λ c. ended-there f over c j;
+        returned-there = λ c. returned-there f over c j;
         stopped = ap reverse (stopped f j);
         cut-file = cut-in-range f j fits;
       }

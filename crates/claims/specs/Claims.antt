@@ -1,5 +1,5 @@
--- Demand 3 of document 01, and the precedence of request No. 1: one claim about the whole list of entries of a file's run. The entries are in Entries.antt, the terms in the crate `history`. Up to
--- `Holds` each definition reads the file and the entries alone; `Demand3` ties them to the machine.
+-- Demand 3 of document 01, and the precedence of request No. 1: one claim about the whole list of entries of a file's run. The entries are in Entries.antt, the
+-- terms in the crate `history`. Up to `Holds` each definition reads the file and the entries alone; `Demand3` ties them to the machine.
 -- The parts: 1 what is served, 2 the records, 3 the combiner, 4 turns, 5 remote references, 6 no refusal, 7 when calls began and returned.
 use Prim.Native.Nat.{ℕ, suc, _+_, _-_, _*_, _≤_, _<_, _^_}
 use mathlib.Core.Path.{_≡_}
@@ -26,7 +26,7 @@ use Rattle.step.specs.Entry.{oneIf, zeroThread}
 use Rattle.step.specs.Steps.{stepsOf}
 use Rattle.history.specs.Entries.{Entry, happened, is, howMany}
 use Rattle.history.specs.Copies.{RemoteAsSaid}
-use Rattle.history.specs.Terms.{Call, begunBy, callOf, swapOrder, swapAt, noTurn, turnOfCall, combines, Serving, servings, servedIn, costOf, returned, combined, returns, Shown, shownOf, noEntry, numberOf, beganAt, swappedAt, endedAt, precedes, retMark, retValue, recordLength, numberAt, recordsOf, countsOf}
+use Rattle.history.specs.Terms.{Call, begunBy, callOf, swapOrder, swapAt, noTurn, turnOfCall, combines, Serving, servings, servedIn, costOf, returned, combined, returns, Shown, shownOf, noEntry, numberOf, beganAt, swappedAt, returnedAt, precedes, retMark, retValue, recordLength, numberAt, recordsOf, countsOf}
 use Rattle.claims.specs.Entries.{startOf, stateAfter, entriesOf, historyOf, cut}
 
 -- the file's requests of a thread, and its request of a call. Past these, where no call of a run is (`of-the-file`), it is put 0
@@ -68,12 +68,12 @@ pub record ReturnedCall (history : List Entry) (c : Call) (w : Shown) : Type 0 w
   pub by-another : eqb (w .server .0) (c .thread .0) ≡ false → costOf c history ≤ 10
   pub combining : combined c history ≡ true → costOf c history ≤ 5 * servedIn (turnOfCall c history) history + 7
 
--- a call in time: it begins, does its Swap later, and ends later still exactly if it has returned
+-- a call in time: it begins, does its Swap later, and returns, if it has, later still
 pub record Timed (history : List Entry) (c : Call) : Type 0 where
   pub begins : beganAt c history < swappedAt c history
   pub swaps : swappedAt c history < length history
-  pub ends : returned c history ≡ true → (swappedAt c history < endedAt c history) × (endedAt c history < length history)
-  pub open-ended : returned c history ≡ false → endedAt c history ≡ noEntry
+  pub returns : returned c history ≡ true → (swappedAt c history < returnedAt c history) × (returnedAt c history < length history)
+  pub still-open : returned c history ≡ false → returnedAt c history ≡ noEntry
 
 -- a call stands earlier in Swap order than Swap k
 pub record Earlier (history : List Entry) (c : Call) (k : ℕ) : Type 0 where
@@ -118,16 +118,17 @@ pub record Holds (f : Fields) (history : List Entry) (s a : ℕ) : Type 0 where
   pub remote : RemoteAsSaid history
   -- 7: bytes 16 to 19 of a record are the number of the entry that its call began with, 20 to 23 of the one that it returned with, or of none while it is
   -- open, as byte 12 says; no entry has the number of none
-  pub began : (i : ℕ) → i < s → numberAt (getD (recordsOf history) i []) 16 4 ≡ beganAt (swapAt history i) history
-  pub ended : (i : ℕ) → i < s → numberAt (getD (recordsOf history) i []) 20 4 ≡ endedAt (swapAt history i) history
+  pub began-at : (i : ℕ) → i < s → numberAt (getD (recordsOf history) i []) 16 4 ≡ beganAt (swapAt history i) history
+  pub returned-at : (i : ℕ) → i < s → numberAt (getD (recordsOf history) i []) 20 4 ≡ returnedAt (swapAt history i) history
   pub has-returned : (i : ℕ) → i < s → numberAt (getD (recordsOf history) i []) 12 1 ≡ oneIf (returned (swapAt history i) history)
   pub timed : (i : ℕ) → i < s → Timed history (swapAt history i)
   pub entries-fit : length history < noEntry
   pub numbers-fit : (c : Call) (event : Event) → numberOf event c history ≤ noEntry
-  -- Swap order is the order of the Swaps in time. A call that returned before another began stands earlier in it, if the other has run Swap; said of the numbers, and of the bytes of two records
+  -- Swap order is the order of the Swaps in time. A call that returned before another began stands earlier in it, if the other has run Swap; said of the
+  -- numbers, and of the bytes of two records
   pub in-time : (i k : ℕ) → i < k → k < s → swappedAt (swapAt history i) history < swappedAt (swapAt history k) history
   pub precedence : (c : Call) (k : ℕ) → k < s → precedes c (swapAt history k) history ≡ true → Earlier history c k
-  pub as-numbered : (c : Call) (k : ℕ) → k < s → precedes c (swapAt history k) history ≡ ltb (endedAt c history) (beganAt (swapAt history k) history)
+  pub as-numbered : (c : Call) (k : ℕ) → k < s → precedes c (swapAt history k) history ≡ ltb (returnedAt c history) (beganAt (swapAt history k) history)
   pub by-records : (i k : ℕ) → i < s → k < s → numberAt (getD (recordsOf history) i []) 20 4 < numberAt (getD (recordsOf history) k []) 16 4 → i < k
 
 -- the claim of a history by its own counts
@@ -160,7 +161,7 @@ pub record Demand3 (f : Fields) (j : ℕ) (history : List Entry) (after : State)
   -- there is one entry for each of the schedule's first j, in their order, and the numbers of a call's entries are their places
   pub entries : map (λ (e : Entry). e .thread .0) (reverse history) ≡ take j (f .schedule)
   pub began-there : (c : Call) → c .request < begunBy (c .thread) history → BeginsAt f c (beganAt c history)
-  pub ended-there : (c : Call) → returned c history ≡ true → ReturnsAt f c (endedAt c history)
+  pub returned-there : (c : Call) → returned c history ≡ true → ReturnsAt f c (returnedAt c history)
   -- it is the run of the file with its schedule cut to j, which is a file again
   pub stopped : historyOf (cut j f) ≡ history
   pub cut-file : InRange (cut j f)

@@ -36,9 +36,10 @@ abbrev pub hasReturned : Bool
 hasReturned = true
 
 -- a record's bytes, from thread, request, mark, value, serving thread, turn, remote references, whether the call has returned, and the numbers of the entries
--- that it began and ended with: the order of the listing. Where it prints a hyphen the value is 0, the serving thread 255, the turn 65,535 and the end 4,294,967,295
+-- that it began and returned with: the order of the listing. Where it prints a hyphen the value is 0, the serving thread 255, the turn 65,535 and the return
+-- 4,294,967,295
 abbrev pub listed : ℕ → ℕ → ℕ → ℕ → ℕ → ℕ → ℕ → Bool → ℕ → ℕ → List ℕ
-listed thread request mark value server turn remote over began ended = recordBytes thread request mark server value remote over turn began ended
+listed thread request mark value server turn remote over began returned = recordBytes thread request mark server value remote over turn began returned
 
 -- the first record of the 64-byte file, the record of its run cut to 5, and one with its own number in each byte, which is no run's
 abbrev pub served : List ℕ

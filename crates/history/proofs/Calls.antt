@@ -3,21 +3,21 @@
 use Prim.Native.Nat.{ℕ, suc, _+_, _≤_, _<_}
 use native.Mathlib.Omega.{arith}
 use mathlib.Core.Path.{_≡_, refl, sym, ap, subst, _∙_}
-use mathlib.Core.Bool.{Bool, true, false, cond, not, _&&_, _||_, false≢true, and-eq-true-iff}
+use mathlib.Core.Bool.{Bool, true, false, cond, not, false≢true}
 use mathlib.Core.List.{List, [], _∷_, _++_}
 use lib.ListN.{length, getD, List·getD-append}
 use lib.Seq.{getD-at}
 use lib.Dec.{leb}
-use borrow.Author.Tests.{eq-eqb, ne-eqb, eqb-true, le-leb, lt-leb, leb-true}
-use Rattle.object.proofs.Choice.{by-equal, by-order}
+use borrow.Author.Tests.{eq-eqb, ne-eqb, le-leb, lt-leb, leb-true}
+use Rattle.object.proofs.Choice.{by-equal, by-order, by-test}
 use Rattle.machine.specs.declared.ThreadId.{ThreadId}
 use Rattle.machine.specs.declared.Event.the-variants.{Blank, CallBegins, Swaps, TurnBegins, Applies, TurnEnds, Returns}
 use Rattle.history.specs.Entries.{Entry, threadId, is, Is, howMany, remoteIn}
-use Rattle.history.specs.Terms.{Call, Serving, callOf, same, isOf, swapOrder, turnOf, turnOfCall, servedIn, servingOf, servings, costOf, returned, combined}
+use Rattle.history.specs.Terms.{Call, Serving, callOf, isOf, does, swapOrder, turnOf, turnOfCall, servedIn, servingOf, servings, costOf, returned, combined}
 use Rattle.history.specs.Method.{Seen, Positions, idle, waiting, combining, leaving, Moves}
 use Rattle.history.specs.History.{lastCall, SwapOrder, Turns, Ended, Untouched, Open, Served, Settled, Calls}
 use Rattle.history.proofs.Told.{is-so, is-not, by-event, by-thread, goes, later, was-queued}
-use Rattle.history.proofs.OfCall.{same-told, blank-of-none, not-of, is-of, left, Added, added}
+use Rattle.history.proofs.OfCall.{blank-of-none, not-of, is-of, does-told, left, Added, added}
 use Rattle.history.proofs.Shown.{applied}
 use Rattle.history.proofs.Swaps.{of-last, order-kept}
 use Rattle.history.proofs.Turns.{turn-begun, turn-kept, ended-kept, frozen, turn-ends}
@@ -304,16 +304,12 @@ module _ (Paid : Bool → ℕ → ℕ → Type 0) {n h : ℕ} {x x′ : Seen} {p
 
   -- an entry returns its own call, or it returns none
   settled-kept : (c : Call) → returned c (e ∷ past) ≡ true → Settled Paid n x′ p′ (e ∷ past) c
-  settled-kept c z = by-test (isOf c e past && is Returns e) refl z
-    where
-      by-test : (b : Bool) → (isOf c e past && is Returns e) ≡ b → (b || returned c past) ≡ true → Settled Paid n x′ p′ (e ∷ past) c
-      by-test false y q = still-settled c (calls .settled c q)
-      by-test true y q =
-          let both = and-eq-true-iff (isOf c e past) (is Returns e) .0 y in
-          let last : Is Returns e = eqb-true _ _ (both .1) in
-          let mine = and-eq-true-iff (not (is Blank e)) (same c (callOf e past)) .0 (both .0) .1 in
-          let is : c ≡ lastCall x′ t = same-told c (callOf e past) mine ∙ of-last m swaps in
-          rw (is, begun-same last) (returned-now last)
+  settled-kept c z =
+      by-test (does Returns c e past)
+      (λ now.
+      let told = does-told e past Returns c now in
+      rw (told .0 ∙ of-last m swaps, begun-same (told .1)) (returned-now (told .1)))
+      (λ not-now. still-settled c (calls .settled c (rw not-now at z)))
 
   pub calls-kept : Calls Paid n x′ p′ cost′ (e ∷ past)
   calls-kept = record { fresh = fresh-kept; open-call = open-kept; served = served-kept; settled = settled-kept }

@@ -1,8 +1,8 @@
 -- Which call an entry is of, and what an entry of another call leaves as it was. Assumes nothing.
 use Prim.Native.Nat.{ℕ, _+_}
 use native.Mathlib.Nat.{zero-add}
-use mathlib.Core.Path.{_≡_, refl, ap₂}
-use mathlib.Core.Bool.{Bool, true, false, cond, not, _||_, and-false, and-eq-true-iff}
+use mathlib.Core.Path.{_≡_, refl, sym, ap₂, subst, _∙_}
+use mathlib.Core.Bool.{Bool, true, false, cond, not, _&&_, _||_, false≢true, and-false, and-eq-true-iff}
 use mathlib.Core.List.{List, _∷_}
 use lib.ListN.{length}
 use lib.Dec.{eqb}
@@ -10,7 +10,7 @@ use borrow.Author.Tests.{eq-eqb, eqb-true}
 use Rattle.machine.specs.declared.Event.{Event}
 use Rattle.machine.specs.declared.Event.the-variants.{Blank, TurnBegins, Returns}
 use Rattle.history.specs.Entries.{Entry, threadId, is, Is, howMany, remoteIn}
-use Rattle.history.specs.Terms.{Call, callOf, same, isOf, turnOfCall, costOf, returned, combined, returns, numberOf}
+use Rattle.history.specs.Terms.{Call, callOf, same, isOf, does, turnOfCall, costOf, returned, combined, returns, numberOf}
 use Rattle.history.proofs.Told.{is-so, is-not}
 
 -- request q of thread t
@@ -45,6 +45,20 @@ module _ (e : Entry) (past : List Entry) where
 
   pub is-of : (Is Blank e → ⊥) → isOf (callOf e past) e past ≡ true
   is-of z = rw (is-not e Blank z, same-itself (callOf e past))
+
+  -- an entry that is an event of a call is of its thread's last call, and that event; and it is so
+  pub does-told : (event : Event) (c : Call) → does event c e past ≡ true → (c ≡ callOf e past) × Is event e
+  does-told event c z =
+      let both = and-eq-true-iff (isOf c e past) (is event e) .0 z in
+      (of-call c (both .0), eqb-true _ _ (both .1))
+
+  pub does-so : (event : Event) → (Is Blank e → ⊥) → Is event e → does event (callOf e past) e past ≡ true
+  does-so event q z = ap₂ _&&_ (is-of q) (is-so e event z)
+
+  -- where the last call has not returned, no call that the entry is of has
+  pub not-returned : ((Is Blank e → ⊥) → returned (callOf e past) past ≡ false) → (c : Call) → isOf c e past ≡ true → returned c past ≡ false
+  not-returned still c z =
+      subst (λ (d : Call). returned d past ≡ false) (sym (of-call c z)) (still (λ q. false≢true (sym (blank-of-none c q) ∙ z)))
 
   -- what an entry of another call leaves
   pub record Left (c : Call) : Type 0 where

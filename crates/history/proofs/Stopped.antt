@@ -1,17 +1,19 @@
 -- A run stopped after j entries, one entry at a time, and the number of an entry that happens once. Assumes what its parameters say.
-use Prim.Native.Nat.{ℕ, zero, suc, _+_, _≤_, _<_}
+use Prim.Native.Nat.{ℕ, zero, suc, _<_}
 use native.Mathlib.Omega.{arith}
-use mathlib.Core.Path.{_≡_, refl, sym, ap, ap₂, subst, _∙_}
-use mathlib.Core.Bool.{Bool, true, false, cond, _&&_, false≢true, and-eq-true-iff}
+use mathlib.Core.Path.{_≡_, refl, sym, ap, subst, _∙_}
+use mathlib.Core.Bool.{Bool, true, false, cond, false≢true, and-eq-true-iff}
 use mathlib.Core.List.{List, [], _∷_, reverseAux, reverse}
-use lib.ListN.{length, take}
+use lib.ListN.{length, take, length-reverse}
+use lib.Seq.{take-all, length-take-le}
 use lib.Dec.{eqb}
 use borrow.Author.Tests.{eqb-true, eq-eqb}
 use Rattle.object.proofs.Choice.{by-equal, by-order, by-test}
 use Rattle.machine.specs.declared.Event.the-variants.{CallBegins}
 use Rattle.history.specs.Entries.{Entry, threadId, is, Is, isBy}
-use Rattle.history.specs.Terms.{Call, begunBy, callOf, isOf, does, numberWhere}
-use Rattle.history.proofs.OfCall.{call, of-call, is-of}
+use Rattle.history.specs.Terms.{Call, begunBy, callOf, does, numberWhere}
+use Rattle.history.proofs.OfCall.{call, does-told, does-so}
+use Rattle.history.proofs.Told.{is-so}
 
 -- a history with one entry more
 pub record Grown (before after : List Entry) : Type 0 where
@@ -22,17 +24,6 @@ grows-from : (entries past : List Entry) (j : ℕ) → j < length entries → Gr
 grows-from [] past j b = absurd (omega arith)
 grows-from (e ∷ entries) past zero b = record { entry = e; is = refl }
 grows-from (e ∷ entries) past (suc j) b = grows-from entries (e ∷ past) j (omega arith)
-
-long-from : (entries past : List Entry) (j : ℕ) → j ≤ length entries → length (reverseAux (take j entries) past) ≡ j + length past
-long-from entries past zero b = omega arith
-long-from [] past (suc j) b = absurd (omega arith)
-long-from (e ∷ entries) past (suc j) b = omega (arith, long-from entries (e ∷ past) j (omega arith))
-
-all-taken : (entries : List Entry) (j : ℕ) → length entries ≤ j → take (suc j) entries ≡ take j entries
-all-taken [] zero b = refl
-all-taken [] (suc j) b = refl
-all-taken (e ∷ entries) zero b = absurd (omega arith)
-all-taken (e ∷ entries) (suc j) b = ap (λ (l : List Entry). e ∷ l) (all-taken entries j (omega arith))
 
 module _ (entries : List Entry) where
   -- the history after j entries
@@ -56,23 +47,22 @@ module _ (entries : List Entry) where
         by-test (test e (after j))
         (λ yes.
         let is : number (after (suc j)) ≡ j =
-        ap number (grown .is) ∙ ap (λ (b : Bool). cond b (length (after j)) (number (after j))) yes ∙ (long-from entries [] j (omega arith) ∙ omega arith) in
+        ap number (grown .is) ∙ ap (λ (b : Bool). cond b (length (after j)) (number (after j))) yes ∙ length-reverse (take j entries) ∙ length-take-le j entries (omega arith) in
         subst At (sym is) (here j e (grown .is) yes))
         (λ not-yet.
         let is : number (after (suc j)) ≡ number (after j) =
         ap number (grown .is) ∙ ap (λ (b : Bool). cond b (length (after j)) (number (after j))) not-yet in
         subst At (sym is) (at-number j (before e (after j) not-yet (subst So (grown .is) so)))))
         (λ all.
-        let same = ap reverse (all-taken entries j all) in
+        let same = ap reverse (take-all (suc j) entries (omega arith) ∙ sym (take-all j entries all)) in
         subst (λ (r : List Entry). At (number r)) (sym same) (at-number j (subst So same so)))
 
 -- an entry that begins a call finds as many calls begun as the call's number, and leaves one more
 module _ (c : Call) (e : Entry) (past : List Entry) where
   pub begins-call : does CallBegins c e past ≡ true → (begunBy (c .thread) past ≡ c .request) × (begunBy (c .thread) (e ∷ past) ≡ suc (c .request))
   begins-call z =
-      let both = and-eq-true-iff (isOf c e past) (is CallBegins e) .0 z in
-      let mine = of-call e past c (both .0) in
-      rw (mine, both .1, eq-eqb (e .thread .0) (e .thread .0) refl) (omega arith)
+      let told = does-told e past CallBegins c z in
+      rw (told .0, is-so e CallBegins (told .1), eq-eqb (e .thread .0) (e .thread .0) refl) (omega arith)
 
   pub begun-before : does CallBegins c e past ≡ false → c .request < begunBy (c .thread) (e ∷ past) → c .request < begunBy (c .thread) past
   begun-before other so =
@@ -84,7 +74,6 @@ module _ (c : Call) (e : Entry) (past : List Entry) where
       by-equal (c .request) (begunBy (c .thread) past)
       (λ last.
       let mine : callOf e past ≡ c = rw (both .1, thread, eq-eqb (c .thread .0) (c .thread .0) refl) (ap (call (c .thread .0)) (omega arith)) in
-      let is-mine : isOf c e past ≡ true = subst (λ (d : Call). isOf d e past ≡ true) mine (is-of e past (λ z. omega arith)) in
-      absurd (false≢true (sym other ∙ ap₂ _&&_ is-mine (both .1))))
+      absurd (false≢true (sym other ∙ subst (λ (d : Call). does CallBegins d e past ≡ true) mine (does-so e past CallBegins (λ z. omega arith) begun))))
       (λ less. omega (arith, rw begins at so)))
       (λ none. omega (arith, rw none at so))

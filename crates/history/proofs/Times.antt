@@ -6,17 +6,16 @@ use mathlib.Core.Path.{_≡_, refl, sym, ap, ap₂, subst, _∙_}
 use mathlib.Core.Bool.{Bool, true, false, cond, not, _&&_, _||_, false≢true, and-false, or-true, and-eq-true-iff}
 use mathlib.Core.List.{List, [], _∷_}
 use lib.ListN.{length, getD}
-use borrow.Author.Tests.{eqb-true}
 use Rattle.object.proofs.Choice.{by-equal, by-order, by-test}
 use Rattle.machine.specs.declared.Event.{Event}
 use Rattle.machine.specs.declared.Event.the-variants.{Blank, CallBegins, Swaps, Returns}
 use Rattle.machine.specs.Lines.{eventNumber}
 use Rattle.history.specs.Entries.{Entry, happened, is, Is}
-use Rattle.history.specs.Terms.{Call, callOf, isOf, does, swapOrder, returned, noEntry, numberWhere, beganAt, swappedAt, endedAt, precedes}
+use Rattle.history.specs.Terms.{Call, callOf, isOf, does, swapOrder, returned, noEntry, numberWhere, beganAt, swappedAt, returnedAt, precedes}
 use Rattle.history.specs.Method.{Seen, Positions, Moves}
 use Rattle.history.specs.History.{lastCall, Swapped, SwapOrder, SwapTime, Ordered, Times}
 use Rattle.history.proofs.Told.{is-so, is-not, by-event, goes}
-use Rattle.history.proofs.OfCall.{call, blank-of-none, of-call, is-of, left}
+use Rattle.history.proofs.OfCall.{call, is-of, does-told, does-so, not-returned, left}
 use Rattle.history.proofs.Swaps.{of-last, by-position, order-kept, order-new, not-yet}
 
 -- the number of the latest entry that passes a test: one of the past's, or of none
@@ -52,24 +51,24 @@ module _ (test : Entry → List Entry → Bool) where
       by-test (happened test past) (λ y. (y, number-below past y)) (λ y. absurd (omega (arith, number-none past y)))
 
 -- an entry is one event, and passes no test for another
-neither : (e : Entry) (event other : Event) → (eventNumber event ≡ eventNumber other → ⊥) → is event e ≡ true → (b : Bool) → (b && is other e) ≡ false
-neither e event other apart z b = ap (λ (c : Bool). b && c) (is-not e other (λ q. apart (sym (eqb-true _ _ z) ∙ q))) ∙ and-false b
+neither : (e : Entry) (event other : Event) → (eventNumber event ≡ eventNumber other → ⊥) → Is event e → (b : Bool) → (b && is other e) ≡ false
+neither e event other apart q b = ap (λ (c : Bool). b && c) (is-not e other (λ z. apart (sym q ∙ z))) ∙ and-false b
 
--- a call whose end has a lower number than another's beginning had returned when that began
-pub by-numbers : (c other : Call) (past : List Entry) → length past ≤ 32768 → beganAt other past < length past → endedAt c past < beganAt other past
+-- a call whose return has a lower number than another's beginning had returned when that began
+pub by-numbers : (c other : Call) (past : List Entry) → length past ≤ 32768 → beganAt other past < length past → returnedAt c past < beganAt other past
     → precedes c other past ≡ true
 by-numbers c other [] short begun z = absurd (omega arith)
 by-numbers c other (e ∷ past) short begun z =
     by-test (does CallBegins other e past)
     (λ now.
-    let begins : is CallBegins e ≡ true = and-eq-true-iff (isOf other e past) (is CallBegins e) .0 now .1 in
-    let ended : endedAt c past < length past = rw (now, neither e CallBegins Returns (λ q. omega arith) begins (isOf c e past)) at z in
+    let begins = does-told e past CallBegins other now .1 in
+    let before : returnedAt c past < length past = rw (now, neither e CallBegins Returns (λ q. omega arith) begins (isOf c e past)) at z in
     rw (now, number-some (does Returns c) past (omega arith) .0))
     (λ not-now.
     let old : beganAt other past < length past = number-some (does CallBegins other) past (omega (arith, rw not-now at begun)) .1 in
     by-test (does Returns c e past)
-    (λ ends. absurd (omega (arith, rw (not-now, ends) at z)))
-    (λ no-end. rw (by-numbers c other past (omega arith) old (rw (not-now, no-end) at z), or-true)))
+    (λ returns. absurd (omega (arith, rw (not-now, returns) at z)))
+    (λ no-return. rw (by-numbers c other past (omega arith) old (rw (not-now, no-return) at z), or-true)))
 
 module _ {n h : ℕ} {x x′ : Seen} {p p′ : Positions} {t : ℕ} {e : Entry} {past : List Entry} (m : Moves n h x x′ p p′ t e) (swaps : SwapOrder n x p past)
     (still : (Is Blank e → ⊥) → returned (callOf e past) past ≡ false) (times : Times n x p past) where
@@ -113,7 +112,7 @@ module _ {n h : ℕ} {x x′ : Seen} {p p′ : Positions} {t : ℕ} {e : Entry} 
       by-equal (suc (c .request)) (x .begun t)
       (λ last.
       let mine : callOf e past ≡ c = of-last m swaps ∙ ap₂ call (sym z) (omega arith) in
-      rw (subst (λ (d : Call). does Returns d e past ≡ true) mine (ap₂ _&&_ (is-of e past (λ y. omega arith)) (is-so e Returns q))))
+      rw (subst (λ (d : Call). does Returns d e past ≡ true) mine (does-so e past Returns (λ y. omega arith) q)))
       (λ other. before (omega arith) (λ on. omega arith)))
       (λ q.
       by-event e CallBegins (λ y. before (omega (arith, goes m .begins y, shut (omega (arith, goes m .begins y)))) (λ on. absurd (omega (arith, goes m .begins y))))
@@ -126,31 +125,20 @@ module _ {n h : ℕ} {x x′ : Seen} {p p′ : Positions} {t : ℕ} {e : Entry} 
 
   -- of a call that has returned there is no entry more
   no-more : (c : Call) → returned c past ≡ true → isOf c e past ≡ false
-  no-more c old =
-      by-test (isOf c e past)
-      (λ y.
-      let open-yet = by-event e Blank (λ q. absurd (false≢true (sym (blank-of-none e past c q) ∙ y))) still in
-      absurd (false≢true (sym (subst (λ (d : Call). returned d past ≡ false) (sym (of-call e past c y)) open-yet) ∙ old)))
-      (λ y. y)
+  no-more c old = by-test (isOf c e past) (λ y. absurd (false≢true (sym (not-returned e past still c y) ∙ old))) (λ y. y)
 
   -- what holds of the calls whose Swap is done: none begins again or does another
   module _ (c : Call) (there : Swapped n x c) where
+    -- an entry that is an event of the call is of its thread's last call
+    none : (event : Event) → (Is event e → c ≡ lastCall x′ t → ⊥) → does event c e past ≡ false
+    none event apart =
+        by-test (does event c e past) (λ z. let told = does-told e past event c z in absurd (apart (told .1) (told .0 ∙ of-last m swaps))) (λ z. z)
+
     no-begin : does CallBegins c e past ≡ false
-    no-begin =
-        by-test (does CallBegins c e past)
-        (λ z.
-        let both = and-eq-true-iff (isOf c e past) (is CallBegins e) .0 z in
-        let last : Swapped n x (lastCall x′ t) = subst (Swapped n x) (of-call e past c (both .0) ∙ of-last m swaps) there in
-        absurd (omega (arith, last .begun, goes m .begins (eqb-true _ _ (both .1)))))
-        (λ z. z)
+    no-begin = none CallBegins (λ q is. let last : Swapped n x (lastCall x′ t) = subst (Swapped n x) is there in omega (arith, last .begun, goes m .begins q))
 
     no-swap : does Swaps c e past ≡ false
-    no-swap =
-        by-test (does Swaps c e past)
-        (λ z.
-        let both = and-eq-true-iff (isOf c e past) (is Swaps e) .0 z in
-        absurd (not-yet m swaps c (eqb-true _ _ (both .1)) there (of-call e past c (both .0) ∙ of-last m swaps)))
-        (λ z. z)
+    no-swap = none Swaps (λ q is. not-yet m swaps c q there is)
 
     still-swapped : swappedAt c (e ∷ past) ≡ swappedAt c past
     still-swapped = ap (λ (b : Bool). cond b (length past) (swappedAt c past)) no-swap
@@ -159,22 +147,21 @@ module _ {n h : ℕ} {x x′ : Seen} {p p′ : Positions} {t : ℕ} {e : Entry} 
     time-kept o = record {
       began = rw (no-begin, no-swap) (o .began);
       done = rw no-swap (omega (arith, o .done));
-      ended = λ z.
-          by-test (does Returns c e past) (λ now. rw (now, no-swap) (o .done)) (λ not-now. rw (not-now, no-swap) (o .ended (rw not-now at z)));
+      returned = λ z.
+          by-test (does Returns c e past) (λ now. rw (now, no-swap) (o .done)) (λ not-now. rw (not-now, no-swap) (o .returned (rw not-now at z)));
     }
 
   -- and of the call that does it now
   time-now : Is Swaps e → SwapTime (e ∷ past) (callOf e past)
   time-now q =
       let c = callOf e past in
-      let swap = is-so e Swaps q in
-      let here : does Swaps c e past ≡ true = ap₂ _&&_ (is-of e past (λ z. omega arith)) swap in
+      let here = does-so e past Swaps (λ z. omega arith) q in
       let busy = swaps .busy t (m .below) (omega (arith, goes m .swaps q)) in
       let begun : beganAt c past < length past = rw (of-last m swaps) (times .began (lastCall x′ t) (m .below) (omega (arith, goes m .same (λ z. omega arith)))) in
       record {
-        began = rw (here, neither e Swaps CallBegins (λ z. omega arith) swap (isOf c e past)) begun;
+        began = rw (here, neither e Swaps CallBegins (λ z. omega arith) q (isOf c e past)) begun;
         done = rw here (omega arith);
-        ended = λ z. absurd (false≢true (sym (still (λ y. omega arith)) ∙ rw (neither e Swaps Returns (λ y. omega arith) swap (isOf c e past)) at z));
+        returned = λ z. absurd (false≢true (sym (still (λ y. omega arith)) ∙ rw (neither e Swaps Returns (λ y. omega arith) q (isOf c e past)) at z));
       }
 
   swapped-kept : (i : ℕ) (d : Call) → i < p′ .s → SwapTime (e ∷ past) (getD (swapOrder (e ∷ past)) i d)
@@ -191,7 +178,7 @@ module _ {n h : ℕ} {x x′ : Seen} {p p′ : Positions} {t : ℕ} {e : Entry} 
   number-now k d swap new =
       let is : getD (swapOrder (e ∷ past)) k d ≡ callOf e past = rw new (order-new m swaps d swap) ∙ sym (of-last m swaps) in
       ap (λ (c : Call). swappedAt c (e ∷ past)) is
-      ∙ ap (λ (b : Bool). cond b (length past) (swappedAt (callOf e past) past)) (ap₂ _&&_ (is-of e past (λ z. omega arith)) (is-so e Swaps swap))
+      ∙ ap (λ (b : Bool). cond b (length past) (swappedAt (callOf e past) past)) (does-so e past Swaps (λ z. omega arith) swap)
 
   in-time-kept : (i k : ℕ) (d : Call) → i < k → k < p′ .s → swappedAt (getD (swapOrder (e ∷ past)) i d) (e ∷ past) < swappedAt (getD (swapOrder (e ∷ past)) k d) (e ∷ past)
   in-time-kept i k d less below =
@@ -199,18 +186,8 @@ module _ {n h : ℕ} {x x′ : Seen} {p p′ : Positions} {t : ℕ} {e : Entry} 
       (λ old. omega (arith, number-kept i d (omega arith), number-kept k d old, times .in-time i k d less old))
       (λ swap new. omega (arith, number-kept i d (omega arith), number-now k d swap new, times .swapped i d (omega arith) .done))
 
-  -- the other begins with this entry, the call having returned, or began before it
-  by-beginning : {P : Type 0} (c other : Call) → precedes c other (e ∷ past) ≡ true → (returned c past ≡ true → isOf other e past ≡ true → is CallBegins e ≡ true → P)
-      → (precedes c other past ≡ true → P) → P
-  by-beginning c other z begins began =
-      by-test (does CallBegins other e past && returned c past)
-      (λ now.
-      let all = and-eq-true-iff (does CallBegins other e past) (returned c past) .0 now in
-      let both = and-eq-true-iff (isOf other e past) (is CallBegins e) .0 (all .0) in
-      begins (all .1) (both .0) (both .1))
-      (λ not-now. began (rw not-now at z))
-
-  still-ordered : (c other : Call) → returned c past ≡ true → (does CallBegins other e past ≡ false → endedAt c past < beganAt other past)
+  -- a call that has returned is ordered before one that begins with this entry, and before those that it was
+  still-ordered : (c other : Call) → returned c past ≡ true → (does CallBegins other e past ≡ false → returnedAt c past < beganAt other past)
       → Ordered (e ∷ past) c other
   still-ordered c other old less =
       let same = left e past c (no-more c old) in
@@ -224,9 +201,11 @@ module _ {n h : ℕ} {x x′ : Seen} {p p′ : Positions} {t : ℕ} {e : Entry} 
 
   ordered-kept : (c other : Call) → precedes c other (e ∷ past) ≡ true → Ordered (e ∷ past) c other
   ordered-kept c other z =
-      by-beginning c other z
-      (λ old mine begins. still-ordered c other old (λ no. absurd (false≢true (sym no ∙ ap₂ _&&_ mine begins))))
-      (λ before. let o = times .ordered c other before in still-ordered c other (o .returned) (λ no. o .numbers))
+      by-test (does CallBegins other e past && returned c past)
+      (λ now.
+      let both = and-eq-true-iff (does CallBegins other e past) (returned c past) .0 now in
+      still-ordered c other (both .1) (λ no. absurd (false≢true (sym no ∙ both .0))))
+      (λ not-now. let o = times .ordered c other (rw not-now at z) in still-ordered c other (o .returned) (λ no. o .numbers))
 
   pub times-kept : Times n x′ p′ (e ∷ past)
   times-kept = record { began = began-kept; closed = closed-kept; ordered = ordered-kept; swapped = swapped-kept; in-time = in-time-kept }

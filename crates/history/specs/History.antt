@@ -8,7 +8,7 @@ use lib.Dec.{leb, eqb}
 use Rattle.machine.specs.declared.NodeId.{NodeId}
 use Rattle.machine.specs.declared.Event.the-variants.{TurnBegins}
 use Rattle.history.specs.Entries.{Entry, threadId, howMany}
-use Rattle.history.specs.Terms.{Call, Serving, begunBy, swapOrder, callAssigned, turnOf, turnOfCall, combines, servings, servedIn, costOf, returned, combined, returns, beganAt, swappedAt, endedAt, precedes}
+use Rattle.history.specs.Terms.{Call, Serving, begunBy, swapOrder, callAssigned, turnOf, turnOfCall, combines, servings, servedIn, costOf, returned, combined, returns, beganAt, swappedAt, returnedAt, precedes}
 use Rattle.history.specs.Method.{Seen, Positions, calling, waiting, combining, leaving}
 
 -- the node of a number
@@ -113,12 +113,12 @@ module _ (Paid : Bool → ℕ → ℕ → Type 0) where
 pub record SwapTime (past : List Entry) (c : Call) : Type 0 where
   pub began : beganAt c past < swappedAt c past
   pub done : swappedAt c past < length past
-  pub ended : returned c past ≡ true → swappedAt c past < endedAt c past
+  pub returned : returned c past ≡ true → swappedAt c past < returnedAt c past
 
 -- a call has returned, with a lower number than another began with
 pub record Ordered (past : List Entry) (c other : Call) : Type 0 where
   pub returned : returned c past ≡ true
-  pub numbers : endedAt c past < beganAt other past
+  pub numbers : returnedAt c past < beganAt other past
 
 -- calls in time: a call that has begun has the number of an entry, and has returned unless it is its thread's open call; one that had returned when another began has
 -- a lower number; positions are in the order of their Swaps

@@ -130,8 +130,8 @@ beganAt = numberOf CallBegins
 abbrev pub swappedAt : Call → List Entry → ℕ
 swappedAt = numberOf Swaps
 
-abbrev pub endedAt : Call → List Entry → ℕ
-endedAt = numberOf Returns
+abbrev pub returnedAt : Call → List Entry → ℕ
+returnedAt = numberOf Returns
 
 -- whether a call had returned when another began
 abbrev pub precedes : Call → Call → List Entry → Bool
@@ -167,16 +167,16 @@ abbrev pub recordLength : ℕ
 recordLength = 24
 
 -- a record, its bytes, from thread, request, mark, serving thread, value, remote references, whether the call has returned, turn, and the
--- numbers of the entries that it began and ended with
+-- numbers of the entries that it began and returned with
 abbrev pub recordBytes : ℕ → ℕ → ℕ → ℕ → ℕ → ℕ → Bool → ℕ → ℕ → ℕ → List ℕ
-recordBytes thread request mark server value remote over turn began ended =
-    thread ∷ request ∷ mark ∷ server ∷ lowFirst 4 value ++ lowFirst 4 remote ++ oneIf over ∷ lowFirst 2 turn ++ 0 ∷ lowFirst 4 began ++ lowFirst 4 ended
+recordBytes thread request mark server value remote over turn began returned =
+    thread ∷ request ∷ mark ∷ server ∷ lowFirst 4 value ++ lowFirst 4 remote ++ oneIf over ∷ lowFirst 2 turn ++ 0 ∷ lowFirst 4 began ++ lowFirst 4 returned
 
 -- the record of a call
 abbrev pub recordOf : List Entry → Call → List ℕ
 recordOf history c =
     let w = shownOf c (servings history) in
-    recordBytes (c .thread .0) (c .request) (retMark (w .ret)) (w .server .0) (retValue (w .ret)) (costOf c history) (returned c history) (w .turn) (beganAt c history) (endedAt c history)
+    recordBytes (c .thread .0) (c .request) (retMark (w .ret)) (w .server .0) (retValue (w .ret)) (costOf c history) (returned c history) (w .turn) (beganAt c history) (returnedAt c history)
 
 -- the number of so many bytes of a record, from byte i on
 abbrev pub numberAt : List ℕ → ℕ → ℕ → ℕ

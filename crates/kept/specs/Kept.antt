@@ -9,7 +9,7 @@ use Rattle.machine.specs.declared.Event.{Event}
 use Rattle.machine.specs.declared.Event.the-variants.{CallBegins, Returns}
 use Rattle.machine.specs.Lines.{sameEvent}
 use Rattle.history.specs.Entries.{Entry, threadId}
-use Rattle.history.specs.Terms.{Call, servings, costOf, noEntry, beganAt, endedAt, shownOf, Shown, unshown, retMark, retValue}
+use Rattle.history.specs.Terms.{Call, servings, costOf, noEntry, beganAt, returnedAt, shownOf, Shown, unshown, retMark, retValue}
 use Rattle.kept.specs.declared.Kept.{Kept}
 
 -- the place of a call, and the call of a place
@@ -19,21 +19,21 @@ placeOf c = 16 * c .thread .0 + c .request
 abbrev pub callAt : ℕ → Call
 callAt p = record { thread = threadId (p / 16); request = p % 16 }
 
--- what is kept of a call: how it was served, its remote references, and the numbers of the entries that it began and ended with
+-- what is kept of a call: how it was served, its remote references, and the numbers of the entries that it began and returned with
 abbrev pub keptBy : Shown → ℕ → ℕ → ℕ → Kept
-keptBy w remote began ended = record {
+keptBy w remote began returned = record {
   mark = retMark (w .ret);
   server = w .server .0;
   value = retValue (w .ret);
   remote = remote;
   turn = w .turn;
   began = began;
-  ended = ended;
+  returned = returned;
 }
 
 -- as the entries so far say
 abbrev pub keptOf : List Entry → Call → Kept
-keptOf history c = keptBy (shownOf c (servings history)) (costOf c history) (beganAt c history) (endedAt c history)
+keptOf history c = keptBy (shownOf c (servings history)) (costOf c history) (beganAt c history) (returnedAt c history)
 
 -- of a call before its first entry
 abbrev pub unkept : Kept
@@ -48,12 +48,12 @@ afterEntry k event remote number = record {
   remote = (k .remote + remote) % 2 ^ 32;
   turn = k .turn;
   began = cond (sameEvent event CallBegins) number (k .began);
-  ended = cond (sameEvent event Returns) number (k .ended);
+  returned = cond (sameEvent event Returns) number (k .returned);
 }
 
 -- after an entry that serves the call, or not
 abbrev pub afterServing : Kept → Bool → Answer → ThreadId → ℕ → Kept
 afterServing k serves answer server turn =
     cond serves
-    (keptBy (record { ret = Answered answer; server = server; turn = turn }) (k .remote) (k .began) (k .ended))
+    (keptBy (record { ret = Answered answer; server = server; turn = turn }) (k .remote) (k .began) (k .returned))
     k

@@ -19,7 +19,7 @@ pub struct Kept {
     pub remote: u32,
     pub turn: u16,
     pub began: u32,
-    pub ended: u32,
+    pub returned: u32,
 }
 
 // How many bytes the record of a call has.
@@ -48,7 +48,7 @@ pub fn unkept() -> Kept
         remote: 0,
         turn: NO_TURN,
         began: NO_ENTRY,
-        ended: NO_ENTRY,
+        returned: NO_ENTRY,
     }
 }
 
@@ -59,7 +59,7 @@ fn numbered(is: bool, number: u32, before: u32) -> u32
     if is { number } else { before }
 }
 
-// The entry's call: its remote references, and the numbers of the entries that it begins and ends with.
+// The entry's call: its remote references, and the numbers of the entries that it begins and returns with.
 pub fn after_entry(kept: Kept, event: Event, remote: u8, number: u32) -> Kept
     ensures { λ r. ⌜ r ≡ afterEntry kept event remote number ⌝ }
 {
@@ -68,7 +68,7 @@ pub fn after_entry(kept: Kept, event: Event, remote: u8, number: u32) -> Kept
     let mut after = kept;
     after.remote = std::num::wrapping_add_u32(kept.remote, remote as u32);
     after.began = numbered(begins, number, kept.began);
-    after.ended = numbered(returns, number, kept.ended);
+    after.returned = numbered(returns, number, kept.returned);
     after
 }
 
@@ -84,7 +84,7 @@ pub fn after_serving(kept: Kept, serves: bool, answer: Answer, server: ThreadId,
             remote: kept.remote,
             turn,
             began: kept.began,
-            ended: kept.ended,
+            returned: kept.returned,
         };
     }
     kept

@@ -13,10 +13,10 @@ use Rattle.machine.specs.declared.RetVal.the-variants.{NoAnswer, Answered}
 use Rattle.machine.specs.declared.Event.the-variants.{CallBegins, Returns}
 use Rattle.step.specs.Entry.{oneIf}
 use Rattle.history.specs.Entries.{Entry}
-use Rattle.history.specs.Terms.{Call, shownOf, servings, costOf, returned, beganAt, endedAt, retMark, retValue, recordOf, recordsOf, countsOf}
+use Rattle.history.specs.Terms.{Call, shownOf, servings, costOf, returned, beganAt, returnedAt, retMark, retValue, recordOf, recordsOf, countsOf}
 use Rattle.claims.specs.Entries.{historyOf}
 use Rattle.claims.specs.Claims.{RecordSized, Claimed}
-use Rattle.claims.proofs.Bytes.{value-bytes, cost-bytes, turn-bytes, began-bytes, ended-bytes}
+use Rattle.claims.proofs.Bytes.{value-bytes, cost-bytes, turn-bytes, began-bytes, returned-bytes}
 use Rattle.claims.proofs.Theorem.{claim-whole}
 use Rattle.bench.proofs.InPlace.{laid-back}
 use Rattle.listing.specs.Listing.{headLine, retOf, callLine, recordLine, recordLines, listingOf}
@@ -45,7 +45,7 @@ ret-back (Answered Full) = refl
 abbrev pub shownLine : ℕ → List Entry → Call → List ℕ
 shownLine order history c =
     let w = shownOf c (servings history) in
-    callLine order (c .thread .0) (c .request) (w .ret) (w .server .0) (w .turn) (costOf c history) (oneIf (returned c history)) (beganAt c history) (endedAt c history)
+    callLine order (c .thread .0) (c .request) (w .ret) (w .server .0) (w .turn) (costOf c history) (oneIf (returned c history)) (beganAt c history) (returnedAt c history)
 
 -- a record's line shows its call, where the claim says that each number fits its bytes
 pub call-shown : (order : ℕ) (history : List Entry) (c : Call) {f : Fields} → Claimed f history → recordLine order (recordOf history c) ≡ shownLine order history c
@@ -56,7 +56,7 @@ call-shown order history c claim =
       turn-bytes history c (claim .turn-fits c),
       cost-bytes history c (claim .cost-fits c),
       began-bytes history c (claim .numbers-fit c CallBegins),
-      ended-bytes history c (claim .numbers-fit c Returns),
+      returned-bytes history c (claim .numbers-fit c Returns),
       ret-back,
     )
 

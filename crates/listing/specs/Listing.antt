@@ -69,7 +69,7 @@ abbrev pub valueWord : RetVal → List ℕ
 valueWord NoAnswer = text "-"
 valueWord (Answered answer) = answerValueWord answer
 
--- a number, or a hyphen where it is that of none: server and turn before serving, the end while the call is open
+-- a number, or a hyphen where it is that of none: server and turn before serving, the return while the call is open
 abbrev pub orHyphen : ℕ → ℕ → List ℕ
 orHyphen none number = cond (eqb number none) (text "-") (decimal number)
 
@@ -77,19 +77,19 @@ orHyphen none number = cond (eqb number none) (text "-") (decimal number)
 abbrev pub stateWord : ℕ → List ℕ
 stateWord over = cond (eqb over 1) (text "returned") (text "open")
 
--- the numbers of the entries that the call began and ended with
+-- the numbers of the entries that the call began and returned with
 abbrev pub timeWords : ℕ → ℕ → List (List ℕ)
-timeWords began ended = decimal began ∷ orHyphen noEntry ended ∷ []
+timeWords began returned = decimal began ∷ orHyphen noEntry returned ∷ []
 
 -- serving thread, turn, remote count, whether the call is over, and its time
 abbrev pub servingWords : ℕ → ℕ → ℕ → ℕ → ℕ → ℕ → List (List ℕ)
-servingWords server turn remote over began ended = orHyphen (noThread .0) server ∷ orHyphen noTurn turn ∷ decimal remote ∷ stateWord over ∷ timeWords began ended
+servingWords server turn remote over began returned = orHyphen (noThread .0) server ∷ orHyphen noTurn turn ∷ decimal remote ∷ stateWord over ∷ timeWords began returned
 
 -- the line of a call: its order from 0, thread, request, mark word, value, how it was served, and its time
 unfoldable pub callLine : ℕ → ℕ → ℕ → RetVal → ℕ → ℕ → ℕ → ℕ → ℕ → ℕ → List ℕ
-callLine order thread request ret server turn remote over began ended =
+callLine order thread request ret server turn remote over began returned =
     textLine (decimal order)
-    (decimal thread ∷ decimal request ∷ markWord ret ∷ valueWord ret ∷ servingWords server turn remote over began ended)
+    (decimal thread ∷ decimal request ∷ markWord ret ∷ valueWord ret ∷ servingWords server turn remote over began returned)
 
 -- byte i of a record
 abbrev pub byteAt : List ℕ → ℕ → ℕ

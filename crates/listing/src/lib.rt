@@ -172,15 +172,15 @@ fn number4(bytes: &[u8], i: usize) -> u32
     number2(bytes, i) + 65536 * number2(bytes, i + 2)
 }
 
-// The end of a record's line: the numbers of the entries that its call began and ended with.
+// The end of a record's line: the numbers of the entries that its call began and returned with.
 fn put_times(out: &mut [u8], at: usize, bytes: &[u8]) -> usize
     requires { ⌜ (length (now bytes) ≡ recordLength) × (at + 23 ≤ length (now out)) ⌝ }
     ensures { λ r. ⌜ Laid (now (out .entry)) at (lineEnd (timeWords (numberAt (now (bytes .entry)) 16 4) (numberAt (now (bytes .entry)) 20 4))) (now (out .exit)) r ⌝ }
     ensures { λ r. ⌜ r ≤ at + 23 ⌝ }
 {
     let began = put_named(out, at, b" ", number4(bytes, 16));
-    let ended = put_or_hyphen(out, began, kept::NO_ENTRY, number4(bytes, 20));
-    put_text(out, ended, b"\n")
+    let returned = put_or_hyphen(out, began, kept::NO_ENTRY, number4(bytes, 20));
+    put_text(out, returned, b"\n")
 }
 
 // A record's line from its server on.

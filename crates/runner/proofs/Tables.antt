@@ -35,7 +35,7 @@ use Rattle.object.specs.Each.{Each}
 use Rattle.object.proofs.Choice.{by-equal}
 use Rattle.object.proofs.Each.{each-map}
 use Rattle.history.specs.Entries.{Entry, threadId, is, Is, howMany}
-use Rattle.history.specs.Terms.{Call, Serving, Shown, noThread, noCall, noTurn, callOf, same, swapOrder, callAssigned, turnOf, servingOf, servings, costOf, numberOf, beganAt, endedAt, shown, unshown, shownOf}
+use Rattle.history.specs.Terms.{Call, Serving, Shown, noThread, noCall, noTurn, callOf, same, swapOrder, callAssigned, turnOf, servingOf, servings, costOf, numberOf, beganAt, returnedAt, shown, unshown, shownOf}
 use Rattle.history.specs.Method.{Moves}
 use Rattle.history.specs.History.{nodeId, lastOf, Swapped}
 use Rattle.history.proofs.OfCall.{call, same-itself, not-same, blank-of-none, not-of, is-of, left, added}
@@ -110,8 +110,8 @@ module _ (c : Call) (w : Serving) where
       by-test false on p = on p
 
 -- what is kept of equal numbers is equal
-kept-alike : (w : Shown) {remote remote′ began began′ ended ended′ : ℕ} → remote ≡ remote′ → began ≡ began′ → ended ≡ ended′
-    → keptBy w remote began ended ≡ keptBy w remote′ began′ ended′
+kept-alike : (w : Shown) {remote remote′ began began′ returned returned′ : ℕ} → remote ≡ remote′ → began ≡ began′ → returned ≡ returned′
+    → keptBy w remote began returned ≡ keptBy w remote′ began′ returned′
 kept-alike w r b e = rw (r, b, e)
 
 module _ (s : State) (t : ThreadId) where
@@ -194,7 +194,7 @@ module _ (f : Fields) (fits : InRange f) (s : State) (past : List Entry) (t : Th
 
   -- what is kept of a call after the entry, with how it was served
   abbrev keptNow : Shown → Call → Kept
-  keptNow w c = keptBy w (costOf c (e ∷ past)) (beganAt c (e ∷ past)) (endedAt c (e ∷ past))
+  keptNow w c = keptBy w (costOf c (e ∷ past)) (beganAt c (e ∷ past)) (returnedAt c (e ∷ past))
 
   -- and before the serving
   abbrev between : Call → Kept
@@ -273,7 +273,7 @@ module _ (f : Fields) (fits : InRange f) (s : State) (past : List Entry) (t : Th
     serving-own : (k : Kept) → k ≡ between (w .call)
         → afterServing k (is Applies e) (applied s t .answer) t (turnOf t past) ≡ keptOf (e ∷ past) (w .call)
     serving-own k is =
-        if-is Applies _ k q ∙ ap (λ (k : Kept). keptBy shows (k .remote) (k .began) (k .ended)) is
+        if-is Applies _ k q ∙ ap (λ (k : Kept). keptBy shows (k .remote) (k .began) (k .returned)) is
         ∙ known (w .call) shows
         (shown-more (w .call) ∙ shown-now (w .call) w (servings past) servers unserved ∙ ap (λ (b : Bool). cond b (shown w) unshown) (same-itself (w .call)) ∙ shown-so)
 

@@ -1,9 +1,9 @@
 -- What a run in place leaves: its counts, what is kept of each call, and Swap order; from the entries of the file's run.
-use Prim.Native.Nat.{ℕ, zero, suc, _+_, _*_, _≤_}
+use Prim.Native.Nat.{ℕ, zero, suc, _+_, _*_}
 use mathlib.Core.Path.{_≡_}
 use mathlib.Core.Bool.{cond}
 use mathlib.Core.List.{List, [], _∷_, map, reverse}
-use lib.ListN.{length, drop, replicate}
+use lib.ListN.{replicate}
 use lib.Dec.{ltb}
 use Rattle.object.specs.declared.Kind.the-variants.{Queue}
 use Rattle.bench_file.specs.Layout.{Fields, requestsOf, Judgement, accepted, refusedBy, judgeOf}

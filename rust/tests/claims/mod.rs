@@ -53,7 +53,7 @@ fn check_cut(file: &Fields, after: &After) -> Result<(), String> {
         "as many records as Swaps counted",
     )?;
     check_calls(file, records)?;
-    check_ends(schedule, records)?;
+    check_times(schedule, records)?;
     check_precedence(records)?;
     check_answers(file, records)?;
     check_turns(file, &counts, records)?;
@@ -89,10 +89,10 @@ fn check_calls(file: &Fields, records: &[RecordBytes]) -> Result<(), String> {
 
 /// The two numbers of a record: a call begins with its thread's first entry, or with the first after
 /// the return of the call before; it returns with a later entry of its thread.
-fn check_ends(schedule: &[u8], records: &[RecordBytes]) -> Result<(), String> {
+fn check_times(schedule: &[u8], records: &[RecordBytes]) -> Result<(), String> {
     let mut idle_since = [0; 16];
     for record in records {
-        let (began, ended) = (began(record), ended(record));
+        let (began, returned_at) = (began(record), returned_at(record));
         let idle = &mut idle_since[usize::from(record[0])];
         claim(
             schedule.get(began) == Some(&record[0]),
@@ -107,14 +107,15 @@ fn check_ends(schedule: &[u8], records: &[RecordBytes]) -> Result<(), String> {
             "a call begins with its thread's first entry after the call before",
         )?;
         claim(
-            returned(record) == (ended != OPEN),
+            returned(record) == (returned_at != OPEN),
             "bytes 20 to 23 are 4294967295 just while byte 12 is 0",
         )?;
         claim(
-            !returned(record) || (began < ended && schedule.get(ended) == Some(&record[0])),
+            !returned(record)
+                || (began < returned_at && schedule.get(returned_at) == Some(&record[0])),
             "a call returns with a later entry of its thread",
         )?;
-        *idle = ended + 1;
+        *idle = returned_at + 1;
     }
     Ok(())
 }
@@ -122,9 +123,9 @@ fn check_ends(schedule: &[u8], records: &[RecordBytes]) -> Result<(), String> {
 /// A call that returned before another began stands earlier in Swap order.
 fn check_precedence(records: &[RecordBytes]) -> Result<(), String> {
     for (i, record) in records.iter().enumerate() {
-        let ended = ended(record);
+        let returned_at = returned_at(record);
         claim(
-            !records[..=i].iter().any(|other| ended < began(other)),
+            !records[..=i].iter().any(|other| returned_at < began(other)),
             "a call that returned before another began stands earlier in Swap order",
         )?;
     }
@@ -286,7 +287,7 @@ fn check_records(before: &After, entry: u8, after: &After) -> Result<(), String>
                 "an entry's remote references are its call's",
             )?;
             claim(
-                !returned(new) || ended(new) == before.schedule.len(),
+                !returned(new) || returned_at(new) == before.schedule.len(),
                 "the number of a return is that of its entry",
             )?;
         } else {
@@ -432,7 +433,7 @@ fn began(record: &RecordBytes) -> usize {
 }
 
 /// The number of the entry with which the call returned, `OPEN` while it has not.
-fn ended(record: &RecordBytes) -> usize {
+fn returned_at(record: &RecordBytes) -> usize {
     number(record, 20) as usize
 }
 

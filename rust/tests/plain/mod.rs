@@ -555,7 +555,7 @@ impl<'a> Machine<'a> {
             _ => {
                 nodes[thread.cur_node].ret.read(access);
                 cost(out, thread.record, thread.remote + access.remote);
-                end(out, thread.record, place);
+                returns(out, thread.record, place);
                 line = 0;
             }
         }
@@ -599,7 +599,7 @@ fn cost(out: &mut [u8], record: u16, remote: u32) {
 }
 
 /// Lines 11 and 21 set byte 12 and bytes 20 to 23, the place of the return.
-fn end(out: &mut [u8], record: u16, place: u32) {
+fn returns(out: &mut [u8], record: u16, place: u32) {
     let record = record_in(out, record);
     record[12] = 1;
     record[20..].copy_from_slice(&place.to_le_bytes());
@@ -652,11 +652,11 @@ fn line_of_record(text: &mut String, order: usize, record: &[u8]) {
     let returned = record[12] == 1;
     let state = if returned { "returned" } else { "open" };
     let began = number_at(record, 16);
-    let ended = or_hyphen(returned, number_at(record, 20));
+    let returned_at = or_hyphen(returned, number_at(record, 20));
     // Writing to a string does not fail.
     let _ = writeln!(
         text,
-        "{order} {thread} {request} {word} {value} {server} {turn} {remote} {state} {began} {ended}"
+        "{order} {thread} {request} {word} {value} {server} {turn} {remote} {state} {began} {returned_at}"
     );
 }
 

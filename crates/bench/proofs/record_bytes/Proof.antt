@@ -11,8 +11,8 @@ low-first-requires c κs = search needs
 low-first-requires-2 : tie.Need-low-first-requires-2
 low-first-requires-2 c κs = search needs
 
-returned-byte-requires : tie.Need-returned-byte-requires
-returned-byte-requires c κs = search needs
+state-byte-requires : tie.Need-state-byte-requires
+state-byte-requires c κs = search needs
 
 cast-low-first : tie.Need-cast-low-first
 cast-low-first c = search needs
@@ -90,10 +90,10 @@ returns : tie.Need-returns
 returns c =
     let began = c .before in
     let turn = began .before in
-    let returned = turn .before .before in
-    let remote = returned .before in
+    let state = turn .before .before in
+    let remote = state .before in
     let given = remote .before .before .args in
-    record-spelled (callAt (given .place)) (given .kept) (remote .before .low-first .ensures) (remote .low-first2 .ensures) (returned .returned-byte .ensures) (turn .low-first3 .ensures)
+    record-spelled (callAt (given .place)) (given .kept) (remote .before .low-first .ensures) (remote .low-first2 .ensures) (state .state-byte .ensures) (turn .low-first3 .ensures)
     (began .low-first4 .ensures) (c .low-first5 .ensures)
 
 pub record-bytes-spec : {M : Type 1} → statement M
@@ -102,7 +102,7 @@ record-bytes-spec =
     (tie.spec
     low-first-requires
     low-first-requires-2
-    returned-byte-requires
+    state-byte-requires
     cast-low-first
     low-first-requires-3
     low-first-requires-4

@@ -36,12 +36,12 @@ same-length c = search needs
 returns : tie.Need-returns
 returns c =
     let end = c .before .before in
-    let ended = end .before .before .before .before .before in
-    let began = ended .before .before .before .before .before in (
+    let returned = end .before .before .before .before .before in
+    let began = returned .before .before .before .before .before in (
       told (λ x. text " " ++ decimal x) (began .before .number4 .ensures) (began .put-named .ensures .0)
-          & told (λ x. text " " ++ orHyphen noEntry x) (ended .before .number42 .ensures) (ended .put-or-hyphen .ensures .0)
+          & told (λ x. text " " ++ orHyphen noEntry x) (returned .before .number42 .ensures) (returned .put-or-hyphen .ensures .0)
           & end .put-text .ensures,
-      omega (arith, began .put-named .ensures .1, ended .put-or-hyphen .ensures .1, end .put-text .ensures .behind),
+      omega (arith, began .put-named .ensures .1, returned .put-or-hyphen .ensures .1, end .put-text .ensures .behind),
     )
 
 pub put-times-spec : {M : Type 1} → statement M
