@@ -49,10 +49,10 @@ module _ (f : Fields) (fits : InRange f) where
   history = historyOf f
 
   -- a call of Swap order has one of the 256 places
-  abbrev Placed : Call → Type 0
+  abbrev pub Placed : Call → Type 0
   Placed c = (c .thread .0 < 16) × (c .request < 16)
 
-  placed : Each Placed (swapOrder history)
+  pub placed : Each Placed (swapOrder history)
   placed =
       each-there Placed noCall (swapOrder history) (λ i b.
       let there = row-there (f .head .object) (f .rows) _ _ (fits .rows) (claim-whole f fits .of-the-file i (omega (arith, one-each Swaps callOf history))) in

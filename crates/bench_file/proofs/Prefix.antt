@@ -166,6 +166,10 @@ judged-by-prefix bytes =
       | no h ↦ ap judgeOf (take-all 34076 bytes (omega arith))
     ]
 
+-- what was read of an input, its first bytes, is judged as the whole
+pub judged-by-start : (input : List ℕ) {read : List ℕ} {size : ℕ} → size ≡ 34076 → take size input ≡ read → judgeOf read ≡ judgeOf input
+judged-by-start input long is = ap judgeOf (sym is) ∙ ap (λ (k : ℕ). judgeOf (take k input)) long ∙ judged-by-prefix input
+
 -- a longer one would be accepted with the same fields where a byte follows, but the fields tell the bytes
 pub most-bytes : (bytes : List ℕ) (f : Fields) → Each Byte bytes → judgeOf bytes ≡ accepted f → length bytes ≤ 34075
 most-bytes bytes f p e =

@@ -10,7 +10,7 @@ use Rattle.bench_file.specs.Layout.{judgeOf}
 use Rattle.bench_file.specs.Promise.{judgedAs, judgedRefusal, Judges}
 use Rattle.bench_writer.specs.declared.Written.{Written}
 use Rattle.bench.specs.declared.RunAnswer.{RunAnswer}
-use Rattle.listing.specs.declared.Listed.{Listed}
+use Rattle.cells.specs.declared.Printed.{Printed}
 
 -- of a file that is accepted: object, n, h, capacity, requests in all, schedule entries
 abbrev pub judgedNumbers : Judged → List ℕ
@@ -40,5 +40,5 @@ answerIn refusal numbers = record {
 abbrev pub writtenIn : ℕ → ℕ → Written
 writtenIn refusal count = record { refusal = refusal; length = count }
 
-abbrev pub listedIn : ℕ → ℕ → Listed
-listedIn refusal count = record { refusal = refusal; length = count }
+abbrev pub printedIn : ℕ → ℕ → Printed
+printedIn refusal count = record { refusal = refusal; length = count }

@@ -4,7 +4,7 @@ ghost use Rattle.bench_file.specs.Promise.{judgedRefusal};
 ghost use Rattle.bench_writer.specs.Writer.{givenBy, WritesAs};
 ghost use Rattle.bench.specs.Promise.{Runs};
 ghost use Rattle.listing.specs.Promise.{Lists};
-ghost use Rattle.ccs.specs.Numbers.{judgedNumbers, JudgedIn, answerIn, writtenIn, listedIn};
+ghost use Rattle.ccs.specs.Numbers.{judgedNumbers, JudgedIn, answerIn, writtenIn, printedIn};
 use bench_file::Judged;
 
 // A judgement's number, 0 for an accepted file.
@@ -97,7 +97,7 @@ pub extern "C" fn ccs_write(
 // Lists any bytes as a bench file: its listing into a lent buffer, and the length; the length of a refusal is 0.
 #[no_mangle]
 pub extern "C" fn ccs_list(file: &[u8], out: &mut [u8], length: &mut usize) -> u8
-    ensures { λ r. ⌜ Lists (now (file .entry)) (now (out .entry)) (now (out .exit)) (listedIn r (now (length .exit))) ⌝ }
+    ensures { λ r. ⌜ Lists (now (file .entry)) (now (out .entry)) (now (out .exit)) (printedIn r (now (length .exit))) ⌝ }
 {
     let listed = listing::list(file, out);
     *length = listed.length;

@@ -7,10 +7,11 @@ use Rattle.bench_file.specs.Bytes.{lowFirst, eachBytes, bytesOf}
 use Rattle.bench_file.specs.Examples.{sixtyFour}
 use Rattle.claims.specs.Entries.{entriesFrom}
 use Rattle.claims.specs.Marked.{twoAdds}
-use Rattle.listing.specs.Text.{digits}
+use Rattle.cells.specs.Text.{digits, numbered}
+use Rattle.cells.specs.Cells.{recordCells}
 use Rattle.listing.specs.Examples.{sixtyFourListing, openListing}
-use Rattle.listing.specs.Listing.{headLine, callLine, recordLine, recordLines, listingOf}
+use Rattle.listing.specs.Listing.{headLine, recordLine, listingOf}
 
 pub sixty-four-listed : listingOf (judgeOf sixtyFour) ∷ listingOf (judgeOf (twoAdds 5)) ∷ [] ≡ sixtyFourListing ∷ openListing ∷ []
-unfolding judgeOf fileReader headReader startReader limitsReader rowReader requestReader scheduleReader ruledByte byte several field littleEndian end lowFirst eachBytes bytesOf sixtyFour entriesFrom digits headLine callLine recordLine recordLines listingOf sixtyFourListing openListing
+unfolding judgeOf fileReader headReader startReader limitsReader rowReader requestReader scheduleReader ruledByte byte several field littleEndian end lowFirst eachBytes bytesOf sixtyFour entriesFrom digits numbered recordCells headLine recordLine listingOf sixtyFourListing openListing
 sixty-four-listed = refl

@@ -1,7 +1,4 @@
-pub mod Decimal
 pub mod Example
-pub mod Giving
-pub mod Laid
+pub mod Lengths
 pub mod Records
-pub mod Lines
 pub mod Service

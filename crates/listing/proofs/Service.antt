@@ -1,65 +1,49 @@
--- What `run` and `judge` promise gives the listing of the file, accepted or refused. Assumes their promises.
-use Prim.Native.Nat.{ℕ, _*_, _≤_}
+-- What `run` and `judge` leave gives the listing of the file, accepted or refused; and what is given of it is promised. Assumes their promises.
+use Prim.Native.Nat.{ℕ, _≤_}
 use native.Mathlib.Omega.{arith}
-use mathlib.Core.Path.{_≡_, sym, ap, subst, _∙_}
+use mathlib.Core.Path.{_≡_, ap}
 use mathlib.Core.List.{List, _++_}
-use lib.ListN.{length, replicate}
-use borrow.Author.Tests.{le-ltb}
-use Rattle.object.specs.Each.{sumOf}
+use lib.ListN.{length, take}
 use Rattle.bench_file.specs.declared.Head.{Head}
-use Rattle.bench_file.specs.declared.Judged.{Judged}
 use Rattle.bench_file.specs.declared.Judged.the-variants as Judged
-use Rattle.bench_file.specs.Layout.{Fields, Judgement, accepted, judgeOf}
-use Rattle.bench_file.specs.Promise.{Judges, judgedAs}
-use Rattle.bench_file.specs.Bytes.{InRange}
+use Rattle.bench_file.specs.Layout.{Judgement, judgeOf}
+use Rattle.bench_file.specs.Promise.{judgedAs}
 use Rattle.state.specs.declared.Counts.{Counts}
-use Rattle.machine.specs.Sizes.{mostCalls}
-use Rattle.history.specs.Entries.{Entry}
-use Rattle.history.specs.Terms.{recordLength, recordsOf, countsOf}
-use Rattle.claims.specs.Entries.{historyOf}
-use Rattle.claims.specs.Result.{Result, resultAs}
-use Rattle.claims.proofs.Room.{requests-few, all-swaps-few}
-use Rattle.loader.proofs.Answer.{accepted-fields, refused-number}
-use Rattle.bench.specs.declared.RunAnswer.{RunAnswer}
-use Rattle.bench.specs.Run.{resultIn, enoughForRecords, written, recordsLaid}
-use Rattle.bench.specs.Promise.{Runs}
-use Rattle.listing.specs.Listing.{headLine, recordLines, refusalLine, listingOf}
-use Rattle.listing.proofs.Records.{listing-of-run}
+use Rattle.loader.proofs.Answer.{refused-number}
+use Rattle.bench.specs.Run.{recordsLaid}
+use Rattle.bench.proofs.Enough.{Ran}
+use Rattle.bench.proofs.InPlace.{laid-count}
+use Rattle.cells.specs.declared.Printed.{Printed}
+use Rattle.cells.specs.Text.{numbered}
+use Rattle.cells.specs.Promise.{Gives, refusalLine}
+use Rattle.cells.proofs.Giving.{inside, not-refused, stands}
+use Rattle.cells.proofs.Words.{refusal-length}
+use Rattle.listing.specs.Listing.{headLine, recordLine, listingOf}
+use Rattle.listing.specs.Promise.{enoughBytes, Lists}
+use Rattle.listing.proofs.Lengths.{listing-length}
 
-module _ {bytes records : List ℕ} {answer : RunAnswer} (runs : Runs bytes (replicate enoughForRecords 0) records answer) (f : Fields) (fits : InRange f) (judged : judgeOf bytes ≡ accepted f) where
-  abbrev history : List Entry
-  history = historyOf f
+-- the words of an accepted file are its listing
+run-listed : {bytes records : List ℕ} {counts : Counts} {head : Head} → Ran bytes records counts head
+    → headLine head counts ++ numbered recordLine 0 (recordsLaid (counts .records) records) ≡ listingOf (judgeOf bytes)
+unfolding listingOf
+run-listed ran = rw (ran .judged, ran .in-buffer, ← ran .head-is, ran .counted)
 
-  -- so many bytes are enough
-  result : resultIn enoughForRecords (judgeOf bytes) ≡ resultAs (accepted f)
-  result = rw (judged, le-ltb enoughForRecords (recordLength * sumOf length (f .rows)) (omega (arith, requests-few f fits)))
-
-  counted : answer .counts ≡ countsOf history
-  counted = ap (λ (r : RunAnswer). r .counts) (runs .answer) ∙ ap (λ (r : Result). r .counts) result
-
-  as-many : answer .counts .records ≡ length (recordsOf history)
-  as-many = ap (λ (c : Counts). c .records) counted ∙ sym (runs .whole f judged .records)
-
-  records-few : answer .counts .records ≤ mostCalls
-  records-few = omega (arith, ap (λ (c : Counts). c .records) counted, all-swaps-few f fits)
-
-  run-listed : headLine (f .head) (answer .counts) ++ recordLines 0 (recordsLaid (answer .counts .records) records) ≡ listingOf (judgeOf bytes)
-  run-listed =
-      let laid : records ≡ written (replicate enoughForRecords 0) (recordsOf history) = runs .buffer ∙ ap (λ (r : Result). written (replicate enoughForRecords 0) (r .records)) result in
-      rw (judged, laid, counted) (listing-of-run f _ _ (runs .whole f judged .bytes) (ap (λ (c : Counts). c .records) (sym counted) ∙ as-many))
-
--- what the listing of an accepted file is made of
-pub record Listable (bytes records : List ℕ) (answer : RunAnswer) (head : Head) : Type 0 where
-  pub most : answer .counts .records ≤ mostCalls
-  pub words : headLine head (answer .counts) ++ recordLines 0 (recordsLaid (answer .counts .records) records) ≡ listingOf (judgeOf bytes)
-
-pub listable : {bytes records : List ℕ} {answer : RunAnswer} {r : Judged} {head : Head} {requests entries : ℕ} → Runs bytes (replicate enoughForRecords 0) records answer → Judges bytes r → r ≡ Judged.Accepted head requests entries
-    → Listable bytes records answer head
-listable {bytes = bytes} {records = records} {answer = answer} runs judges is =
-    let (f, judged, same) = accepted-fields (judgeOf bytes) (sym is ∙ judges .answer) in
-    let fits = judges .exactly f .0 judged .0 in
-    subst (Listable bytes records answer) same (record { most = records-few runs f fits judged; words = run-listed runs f fits judged })
-
-pub refusal-listed : (j : Judgement) {number : ℕ} → Judged.Refused number ≡ judgedAs j → refusalLine number ≡ listingOf j
+refusal-listed : (j : Judgement) {number : ℕ} → Judged.Refused number ≡ judgedAs j → refusalLine number ≡ listingOf j
 unfolding listingOf
 refusal-listed j e = rw (refused-number j e)
+
+-- what is given of a file's listing is promised
+lists : (bytes : List ℕ) {words old new : List ℕ} {r : Printed} → words ≡ listingOf (judgeOf bytes) → length words ≤ enoughBytes → Gives words old new r → Lists bytes old new r
+lists bytes e most g = record { gives = rw (← e) g; enough = λ room. ap (λ (a : Printed). a .refusal) (not-refused g (omega arith)); inside = inside g }
+
+pub lists-run : (bytes records : List ℕ) (counts : Counts) (head : Head) {old new : List ℕ} {r : Printed} → Ran bytes records counts head
+    → Gives (headLine head counts ++ numbered recordLine 0 (recordsLaid (counts .records) records)) old new r → Lists bytes old new r
+lists-run bytes records counts head ran =
+    lists bytes (run-listed ran) (listing-length head counts (recordsLaid (counts .records) records) (omega (arith, laid-count (counts .records) records, ran .few)))
+
+pub lists-refusal : (bytes : List ℕ) (number : ℕ) {old new : List ℕ} {r : Printed} → Judged.Refused number ≡ judgedAs (judgeOf bytes) → Gives (refusalLine number) old new r → Lists bytes old new r
+lists-refusal bytes number e = lists bytes (refusal-listed (judgeOf bytes) e) (omega (arith, refusal-length number))
+
+-- a buffer that is large enough holds the whole listing
+pub listed-whole : {bytes old new : List ℕ} {r : Printed} → Lists bytes old new r → enoughBytes ≤ length old → take (r .length) new ≡ listingOf (judgeOf bytes)
+listed-whole l room = stands (l .gives) (l .enough room)

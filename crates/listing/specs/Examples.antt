@@ -1,7 +1,7 @@
 -- The listing that document 01 prints for its 64-byte file, with the two fields of request No. 1, and that of the same file cut to 5 entries.
 use Prim.Native.Nat.{ℕ}
 use mathlib.Core.List.{List, _++_}
-use Rattle.listing.specs.Text.{text}
+use Rattle.cells.specs.Text.{text}
 
 unfoldable pub sixtyFourListing : List ℕ
 sixtyFourListing =

@@ -1,7 +1,6 @@
--- `listing::put_counts` meets its contract: five numbers with their names, and the end of the line. Assumes nothing.
-use native.Mathlib.Omega.{arith}
+-- `listing::put_counts` meets its contract: five numbers behind their names, and the end of the line. Assumes nothing.
 use borrow.Author.Needs.{needs}
-use Rattle.listing.proofs.Laid.{_&_}
+use Rattle.cells.proofs.Laid.{_&_}
 use Rattle.listing.proofs.put_counts.Statement.{statement}
 use Rattle.listing.proofs.put_counts.Tie as tie
 
@@ -51,31 +50,8 @@ returns c =
     let spin = remote .before .before .before .before .before in
     let blank = spin .before .before .before .before .before in
     let turns = blank .before .before .before .before .before in
-    let calls = turns .before .before .before .before .before in (
-      calls .put-named .ensures .0
-          & turns .put-named2 .ensures .0
-          & blank .put-named3 .ensures .0
-          & spin .put-named4 .ensures .0
-          & remote .put-named5 .ensures .0
-          & end .put-text .ensures,
-      omega (arith, calls, spin),
-    )
+    let calls = turns .before .before .before .before .before in
+    calls .put-named .ensures & turns .put-named2 .ensures & blank .put-named3 .ensures & spin .put-named4 .ensures & remote .put-named5 .ensures & end .put-text .ensures
 
 pub put-counts-spec : {M : Type 1} → statement M
-put-counts-spec =
-    tie.close
-    (tie.spec
-    slice-aggregate-put-named
-    put-named-requires
-    slice-aggregate-put-named-2
-    put-named-requires-2
-    slice-aggregate-put-named-3
-    put-named-requires-3
-    slice-aggregate-put-named-4
-    put-named-requires-4
-    slice-aggregate-put-named-5
-    put-named-requires-5
-    slice-aggregate-put-text
-    put-text-requires
-    same-length
-    returns)
+put-counts-spec = tie.close (tie.spec slice-aggregate-put-named put-named-requires slice-aggregate-put-named-2 put-named-requires-2 slice-aggregate-put-named-3 put-named-requires-3 slice-aggregate-put-named-4 put-named-requires-4 slice-aggregate-put-named-5 put-named-requires-5 slice-aggregate-put-text put-text-requires same-length returns)

@@ -1,10 +1,13 @@
--- `listing::put_head` meets its contract: five parts, one behind the other. Assumes nothing.
-use native.Mathlib.Omega.{arith}
+-- `listing::put_head` meets its contract: mark and version, the object, n and h, and the counts. Assumes nothing.
 use borrow.Author.Needs.{needs}
+use Rattle.cells.proofs.Laid.{_&_, told}
+use Rattle.cells.specs.Cells.{wordText}
 use Rattle.listing.specs.Listing.{headLine}
-use Rattle.listing.proofs.Laid.{_&_}
 use Rattle.listing.proofs.put_head.Statement.{statement}
 use Rattle.listing.proofs.put_head.Tie as tie
+
+kind-word-requires : tie.Need-kind-word-requires
+kind-word-requires c κs = search needs
 
 slice-aggregate-put-text : tie.Need-slice-aggregate-put-text
 slice-aggregate-put-text c = search needs
@@ -12,8 +15,8 @@ slice-aggregate-put-text c = search needs
 put-text-requires : tie.Need-put-text-requires
 put-text-requires c κs = search needs
 
-put-kind-requires : tie.Need-put-kind-requires
-put-kind-requires c κs = search needs
+put-cell-requires : tie.Need-put-cell-requires
+put-cell-requires c κs = search needs
 
 slice-aggregate-put-named : tie.Need-slice-aggregate-put-named
 slice-aggregate-put-named c = search needs
@@ -46,28 +49,12 @@ returns c =
     let h = counts .before .before .before .before in
     let n = h .before .before .before .before .before .before in
     let object = n .before .before .before .before .before .before in
-    let version = object .before .before .before .before in (
-      version .put-text .ensures
-          & object .put-kind .ensures .0
-          & n .put-named .ensures .0
-          & h .put-named2 .ensures .0
-          & counts .put-counts .ensures .0,
-      omega (arith, version, n),
-    )
+    let version = object .before .before .before .before in
+    version .put-text .ensures
+    & told wordText (version .before .before .before .kind-word .ensures) (object .put-cell .ensures)
+    & n .put-named .ensures
+    & h .put-named2 .ensures
+    & counts .put-counts .ensures
 
 pub put-head-spec : {M : Type 1} → statement M
-put-head-spec =
-    tie.close
-    (tie.spec
-    slice-aggregate-put-text
-    put-text-requires
-    put-kind-requires
-    slice-aggregate-put-named
-    cast-put-named
-    put-named-requires
-    slice-aggregate-put-named-2
-    cast-put-named-2
-    put-named-requires-2
-    put-counts-requires
-    same-length
-    returns)
+put-head-spec = tie.close (tie.spec kind-word-requires slice-aggregate-put-text put-text-requires put-cell-requires slice-aggregate-put-named cast-put-named put-named-requires slice-aggregate-put-named-2 cast-put-named-2 put-named-requires-2 put-counts-requires same-length returns)

@@ -1,34 +1,41 @@
--- `listing::put_records` meets its contract: a loop that lays a line a turn. Assumes nothing.
-use Prim.Native.Nat.{_+_, _-_, _*_, _≤_}
+-- `listing::put_records` meets its contract: one line more a pass. Assumes nothing.
+use Prim.Native.Nat.{_-_, _≤_}
 use native.Mathlib.Omega.{arith}
-use mathlib.Core.Path.{_≡_}
+use mathlib.Core.List.{[]}
+use mathlib.Core.Path.{ap, _∙_}
+use lib.ListN.{take}
 use borrow.Author.Needs.{needs}
-use Rattle.listing.specs.Listing.{recordLines}
+use Rattle.bench.proofs.InPlace.{laid-count, laid-slice}
 use Rattle.bench.specs.Run.{recordsLaid}
-use Rattle.listing.specs.Laid.{Laid, lineMost}
-use Rattle.listing.proofs.Laid.{nothing-laid, laid-length, told}
-use Rattle.listing.proofs.Lines.{record-length, line-laid}
+use Rattle.cells.proofs.Laid.{told, laid-length}
+use Rattle.cells.proofs.Numbered.{lays-none, lays-more, lays-all}
+use Rattle.cells.specs.Laid.{Laid}
+use Rattle.cells.specs.Text.{numbered}
+use Rattle.listing.proofs.Records.{line-set}
+use Rattle.listing.specs.Listing.{recordLine}
 use Rattle.listing.proofs.put_records.Statement.{statement}
 use Rattle.listing.proofs.put_records.Tie as tie
 
 abbrev Inv-loop : tie.InvT-loop
-Inv-loop out₀ at records count next₀ i₀ out next i = (i ≤ count) × Laid out₀ at (recordLines 0 (recordsLaid i records)) out next × (next ≤ at + lineMost * i)
+Inv-loop out₀ at records count widths next₀ i₀ out next i = (i ≤ count) × Laid out₀ at (numbered recordLine 0 (take i (recordsLaid count records))) out next
 
 abbrev μ-loop : tie.MeasureT-loop
-μ-loop out₀ at records count next₀ i₀ out next i = count - i
+μ-loop out₀ at records count widths next₀ i₀ out next i = count - i
 
 abbrev given : tie.At-loop Inv-loop μ-loop → tie.Start Inv-loop μ-loop
 given c = c .before .before .before
 
 loop-holds : tie.Need-loop-holds Inv-loop μ-loop
-unfolding recordLines recordsLaid
-loop-holds c = (omega arith, nothing-laid _ _ (omega (arith, c .before .before .pre .1)), omega arith)
+loop-holds c = (omega arith, lays-none recordLine (recordsLaid (c .before .before .args .count) (c .before .before .args .records .now)) [] _ _)
 
 mul-from : tie.Need-mul-from Inv-loop μ-loop
 mul-from c = search needs
 
 add-end : tie.Need-add-end Inv-loop μ-loop
 add-end c = search needs
+
+slice-aggregate-put-record : tie.Need-slice-aggregate-put-record Inv-loop μ-loop
+slice-aggregate-put-record c = search needs
 
 cast-put-record : tie.Need-cast-put-record Inv-loop μ-loop
 cast-put-record c = search needs
@@ -43,9 +50,7 @@ part-put-record-end : tie.Need-part-put-record-end Inv-loop μ-loop
 part-put-record-end c = search needs
 
 put-record-requires : tie.Need-put-record-requires Inv-loop μ-loop
-put-record-requires c κs =
-    let at = c .before .before .before in
-    (record-length (given at .args .records .now) (at .loop .i) (omega (arith, c .before .before .loop-test .taken, given at .pre)), omega (arith, c .before .before .loop-test .taken, at .loop .inv, laid-length (at .loop .inv .1), given at .pre))
+put-record-requires c κs = search needs
 
 add-i : tie.Need-add-i Inv-loop μ-loop
 add-i c = search needs
@@ -55,35 +60,24 @@ loop-less c = search needs
 
 loop-again : tie.Need-loop-again Inv-loop μ-loop
 loop-again c =
-    let turn = c .before .before .put-record in
-    let at = c .before .before .before .before .before .before in
-    (omega arith, line-laid _ _ (at .loop .inv .1) (turn .ensures .0), omega (arith, turn .ensures .1, at .loop .inv))
+    let at = c .before .before .before .before .before .before .before in
+    let records = given at .args .records .now in
+    let count = given at .args .count in
+    let below = c .before .before .before .before .before .before .loop-test .taken in (
+      omega arith,
+      lays-more recordLine (recordsLaid count records) [] (at .loop .i) (omega (arith, laid-count count records, below)) (at .loop .inv .1)
+          (told (λ line. line) (line-set (at .loop .i) _ ∙ ap (recordLine (at .loop .i)) (laid-slice count (at .loop .i) records below)) (c .before .before .put-record .ensures)),
+    )
 
 same-length : tie.Need-same-length Inv-loop μ-loop
 same-length c = laid-length (c .before .loop .inv .1)
 
 returns : tie.Need-returns Inv-loop μ-loop
 returns c =
-    let l = c .before .loop in
-    let all : l .i ≡ given (c .before) .args .count = omega (arith, l .inv .0, c .loop-test .left) in
-    (told (λ count. recordLines 0 (recordsLaid count (given (c .before) .args .records .now))) all (l .inv .1), omega (arith, l .inv, all))
+    let at = c .before in
+    let records = given at .args .records .now in
+    let count = given at .args .count in
+    lays-all recordLine (recordsLaid count records) [] (at .loop .i) (omega (arith, laid-count count records, c .loop-test .left)) (at .loop .inv .1)
 
 pub put-records-spec : {M : Type 1} → statement M
-put-records-spec =
-    tie.close
-    (tie.spec
-    Inv-loop
-    μ-loop
-    loop-holds
-    mul-from
-    add-end
-    cast-put-record
-    sub-put-record
-    part-put-record-start
-    part-put-record-end
-    put-record-requires
-    add-i
-    loop-less
-    loop-again
-    same-length
-    returns)
+put-records-spec = tie.close (tie.spec Inv-loop μ-loop loop-holds mul-from add-end slice-aggregate-put-record cast-put-record sub-put-record part-put-record-start part-put-record-end put-record-requires add-i loop-less loop-again same-length returns)

@@ -1,0 +1,46 @@
+-- `cells::value_cell` meets its contract: a hyphen, or the value. Assumes nothing.
+use native.Mathlib.Omega.{arith}
+use mathlib.Core.List.{[], _∷_}
+use mathlib.Core.Logic.{inl, inr}
+use mathlib.Core.Path.{_≡_, refl}
+use types.Run.{OneOf}
+use denote.Enum.Declared.{tagOf}
+use borrow.Author.Needs.{needs}
+use Rattle.object.proofs.Answer.{the-type}
+use Rattle.object.specs.declared.Answer.the-variants.{Done, Value, Empty, Full}
+use Rattle.object.specs.declared.Answer.{Answer}
+use Rattle.cells.specs.Cells.{answerCell}
+use Rattle.cells.specs.declared.Cell.the-variants.{Says}
+use Rattle.cells.specs.declared.Word.the-variants.{Hyphen}
+use Rattle.cells.proofs.value_cell.Statement.{statement}
+use Rattle.cells.proofs.value_cell.Tie as tie
+
+-- an answer whose tag is none of a value's has a hyphen
+no-value : (answer : Answer) → OneOf (0 ∷ 2 ∷ 3 ∷ []) (tagOf the-type answer) → answerCell answer ≡ Says Hyphen
+no-value Done k = refl
+no-value (Value v) (inl k) = absurd (omega arith)
+no-value (Value v) (inr (inl k)) = absurd (omega arith)
+no-value (Value v) (inr (inr k)) = absurd (omega arith)
+no-value Empty k = refl
+no-value Full k = refl
+
+enum-known-ret : tie.Need-enum-known-ret
+enum-known-ret c = search needs
+
+enum-told : tie.Need-enum-told
+enum-told c = search needs
+
+returns : tie.Need-returns
+returns c = simp (c .enum-told .given .1)
+
+enum-known-answer : tie.Need-enum-known-answer
+enum-known-answer c = search needs
+
+returns-2 : tie.Need-returns-2
+returns-2 c = rw (c .before .before .ret .given .1, no-value _ (c .match2 .keys2))
+
+returns-3 : tie.Need-returns-3
+returns-3 c = rw (c .before .before .before .before .ret .given .1, c .before .answer .given .1)
+
+pub value-cell-spec : {M : Type 1} → statement M
+value-cell-spec = tie.close (tie.spec enum-known-ret enum-told returns enum-known-answer returns-2 returns-3)
