@@ -1,11 +1,13 @@
 /* The CC-Synch step bench for programs in C: link with libccs.a (x86-64), which `rt staticlib ccs` builds.
  *
  * Every function takes any bytes, any numbers and any lent buffer, and answers 0 or the number of a refusal. Each comment says which numbers a
- * function answers, and what each buffer holds afterwards, refused or not.
+ * function answers, and what each buffer holds afterwards, refused or not. A file that is refused gives its refusal's number, and nothing is
+ * written; for ccs_list alone the refusal is a text to list.
  *
  * Pointers: each points to as many bytes or numbers as the length beside it or the parameter says, and is not NULL, even where the length is 0. What
  * is lent for writing overlaps nothing else that is passed. Nothing is kept of a pointer after the call, and no function writes to memory that is
- * not lent to it. The functions may be called from several threads at once. ccs_run needs 40 KiB of stack, ccs_list 80 KiB, the others 1 KiB.
+ * not lent to it. The functions may be called from several threads at once. ccs_run needs 40 KiB of stack, ccs_list 80 KiB, ccs_page 64 KiB,
+ * the others 1 KiB.
  *
  * The bench file, version 1, numbers low byte first:
  *   bytes 0 to 2   mark, 'C' 'C' 'S'
@@ -69,6 +71,13 @@ enum {
     CCS_ENOUGH_FOR_LISTING = 29309
 };
 
+/* The bytes of a page's row, the records of a page at most, and how many bytes hold the pages of every file: 256 records on five pages, 14,616. */
+enum {
+    CCS_ROW_LENGTH = 56,
+    CCS_PAGE_RECORDS = 58,
+    CCS_ENOUGH_FOR_PAGES = (256 + 5) * CCS_ROW_LENGTH
+};
+
 /* The places of the numbers that ccs_judge tells. */
 enum {
     CCS_JUDGED_OBJECT,   /* 0 queue, 1 stack, 2 counter */
@@ -111,6 +120,26 @@ uint8_t ccs_write(uint8_t object, uint8_t n, uint8_t h, uint8_t capacity, const 
  * 0: out has the text from its first byte on, without a 0 at its end, every later byte is as it was, and *length is the text's. 13: out is as it was,
  * and *length is 0. */
 uint8_t ccs_list(const uint8_t *file, size_t file_length, uint8_t *out, size_t out_length, size_t *length);
+
+/* Prints the pages of file's run: 0, or 1 to 12 for the file, or 13 where out is shorter than the rows of this run, which it never is with
+ * CCS_ENOUGH_FOR_PAGES bytes; how many requests stand in the file does not matter to it.
+ * A page has a head row and at most CCS_PAGE_RECORDS records, a row each, in Swap order. Only the last page may be shorter; a page with the head row
+ * alone is printed where there are no records, once. A row is CCS_ROW_LENGTH bytes: 55 columns, with the spaces at their end, and a line feed. The
+ * head row's words, and under each in so many columns, with one space between:
+ *   no       3     order, from 0, running on over the pages
+ *   th       2     thread
+ *   rq       2     request within the thread
+ *   ans      5     done, value, empty, full, or none while not served
+ *   value   10     value, or a hyphen where the answer has none
+ *   by       2     serving thread, or a hyphen before serving
+ *   turn     5     turn that served it, or a hyphen before serving
+ *   remote  10     the call's remote references so far
+ *   state    8     open or returned
+ * Numbers stand right in their columns, words and hyphens left. Row i, from 0, stands at byte CCS_ROW_LENGTH * (i + i / CCS_PAGE_RECORDS + 1). No two
+ * different rows of these fields print alike.
+ * 0: out has the rows from its first byte on, without a 0 at their end, every later byte is as it was, and *length is that of the rows. A refusal:
+ * out is as it was, and *length is 0. */
+uint8_t ccs_page(const uint8_t *file, size_t file_length, uint8_t *out, size_t out_length, size_t *length);
 
 #ifdef __cplusplus
 }

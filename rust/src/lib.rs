@@ -2,11 +2,11 @@
 //!
 //! Each function takes any bytes and any lent buffer, and answers a result or a [`Refusal`]. A refusal leaves the buffer as it was;
 //! otherwise what is written stands from the buffer's first byte on, and every later byte is as it was. The functions may be
-//! called from several threads at once. [`run`] needs 40 KiB of stack, [`list`] 80 KiB.
+//! called from several threads at once. [`run`] needs 40 KiB of stack, [`list`] 80 KiB, [`page`] 64 KiB.
 //!
 //! What the library promises of its answers is proved, for every file and every schedule; this package, the linker and the
 //! compiler are not part of that proof. The file's layout and the record of a call stand in `include/ccs.h`; the repository's README
-//! shows a listing.
+//! shows a listing and a page.
 mod record;
 mod refusal;
 
@@ -46,6 +46,13 @@ mod border {
             out_length: usize,
             length: *mut usize,
         ) -> u8;
+        pub fn ccs_page(
+            file: *const u8,
+            file_length: usize,
+            out: *mut u8,
+            out_length: usize,
+            length: *mut usize,
+        ) -> u8;
     }
 }
 
@@ -57,6 +64,15 @@ pub const ENOUGH_FOR_RECORDS: usize = 256 * RECORD_LENGTH;
 
 /// So many bytes hold the listing of every file.
 pub const ENOUGH_FOR_LISTING: usize = 29_309;
+
+/// The bytes of one row of a [`page`]: 55 columns and a line feed.
+pub const ROW_LENGTH: usize = 56;
+
+/// The records of one page, at most.
+pub const PAGE_RECORDS: usize = 58;
+
+/// So many bytes hold the pages of every file: 256 records on five pages.
+pub const ENOUGH_FOR_PAGES: usize = (256 + 5) * ROW_LENGTH;
 
 /// What a file that is accepted holds, by the numbers of its layout.
 #[derive(Clone, Copy, Debug, PartialEq, Eq)]
@@ -242,6 +258,42 @@ pub fn list(file: &[u8], out: &mut [u8]) -> Result<usize, Refusal> {
     unless_refused(number, length)
 }
 
+/// Runs any bytes as a bench file, prints the run's pages, and answers their length. A page has a head row and at most [`PAGE_RECORDS`] records,
+/// in Swap order, each row [`ROW_LENGTH`] bytes; only the last page may be shorter, and a head row alone is printed where there are no records,
+/// once. Row i, from 0, stands at byte `ROW_LENGTH * (i + i / PAGE_RECORDS + 1)`. `include/ccs.h` has the columns. [`Refusal::Buffer`] is by the
+/// rows of this run, not by the requests in the file; [`ENOUGH_FOR_PAGES`] bytes are never too few.
+///
+/// ```
+/// // a counter, one thread that adds 5, and 5 entries: the last is the Swap
+/// let file = [0x43, 0x43, 0x53, 1, 0, 2, 1, 1, 0, 1, 2, 5, 0, 0, 0, 5, 0, 0, 0, 0, 0, 0];
+/// let mut out = [0; ccs::ENOUGH_FOR_PAGES];
+/// let length = ccs::page(&file, &mut out).unwrap();
+/// let rows: Vec<&[u8]> = out[..length].chunks(ccs::ROW_LENGTH).collect();
+/// assert_eq!(rows.len(), 2);
+/// assert_eq!(rows[0], b"no  th rq ans   value      by turn  remote     state   \n");
+/// assert_eq!(rows[1], b"  0  0  0 none  -          -  -              4 open    \n");
+///
+/// // no request, no entry: the head row alone
+/// let file = [0x43, 0x43, 0x53, 1, 0, 2, 1, 1, 0, 0, 0, 0];
+/// assert_eq!(ccs::page(&file, &mut out[..56]), Ok(ccs::ROW_LENGTH));
+/// assert_eq!(ccs::page(&file, &mut out[..55]), Err(ccs::Refusal::Buffer));
+/// assert_eq!(ccs::page(b"CCT", &mut out), Err(ccs::Refusal::Mark));
+/// ```
+pub fn page(file: &[u8], out: &mut [u8]) -> Result<usize, Refusal> {
+    let mut length = 0;
+    // SAFETY: as in `run`.
+    let number = unsafe {
+        border::ccs_page(
+            file.as_ptr(),
+            file.len(),
+            out.as_mut_ptr(),
+            out.len(),
+            &mut length,
+        )
+    };
+    unless_refused(number, length)
+}
+
 #[cfg(test)]
 mod tests {
     use super::*;
@@ -263,7 +315,7 @@ mod tests {
         let mut out = [0xEE; RECORD_LENGTH - 1];
         for length in 0..=file.len() {
             let mut numbers = [usize::MAX; 6];
-            // SAFETY: as in `judge`, `run` and `list`.
+            // SAFETY: as in `judge`, `run`, `list` and `page`.
             let judged = unsafe { border::ccs_judge(file.as_ptr(), length, &mut numbers) };
             assert_eq!(judged == 0, length == file.len());
             assert_eq!(numbers == [0; 6], judged != 0);
@@ -277,6 +329,11 @@ mod tests {
             let mut written = usize::MAX;
             let listed = unsafe { border::ccs_list(file.as_ptr(), length, at, 9, &mut written) };
             assert_eq!((listed, written), (13, 0));
+
+            let mut written = usize::MAX;
+            let printed =
+                unsafe { border::ccs_page(file.as_ptr(), length, at, lent, &mut written) };
+            assert_eq!((printed, written), (ran, 0));
         }
         let mut written = usize::MAX;
         let (row, at, lent) = (file.as_ptr(), out.as_mut_ptr(), out.len());

@@ -2,7 +2,8 @@
 mod inputs;
 mod plain;
 
-use ccs::{Answer, Record, Refusal, ENOUGH_FOR_LISTING, ENOUGH_FOR_RECORDS, RECORD_LENGTH};
+use ccs::{Answer, Record, Refusal, ENOUGH_FOR_LISTING, ENOUGH_FOR_PAGES, ENOUGH_FOR_RECORDS};
+use ccs::{PAGE_RECORDS, RECORD_LENGTH, ROW_LENGTH};
 use inputs::{damaged, run_by_library, run_plainly, Given, Random};
 use std::fs;
 use std::path::{Path, PathBuf};
@@ -71,6 +72,14 @@ impl Lent {
         )
     }
 
+    fn pages(&mut self, file: &[u8], lent: usize) -> Result<usize, u8> {
+        self.alike(
+            lent,
+            |out| ccs::page(file, out).map_err(Refusal::number),
+            |out| plain::page(file, out),
+        )
+    }
+
     fn writes(&mut self, given: &Given, lent: usize) -> Result<usize, u8> {
         self.alike(
             lent,
@@ -79,7 +88,27 @@ impl Lent {
         )
     }
 
-    /// Judged, run and listed alike, with enough bytes lent.
+    /// Printed alike with more bytes lent than are needed, with none, with one too few and with just enough.
+    fn prints(&mut self, file: &[u8]) -> Result<usize, u8> {
+        let printed = self.pages(file, ENOUGH_FOR_PAGES + 1);
+        let short = printed.and(Err(13));
+        assert_eq!(self.pages(file, 0), short);
+        if let Ok(length) = printed {
+            assert_eq!(self.pages(file, length - 1), short);
+            assert_eq!(self.pages(file, length), printed);
+        }
+        printed
+    }
+
+    /// The rows of a file that prints.
+    fn rows(&mut self, file: &[u8]) -> Vec<&str> {
+        let length = self.prints(file).expect("a file in range");
+        let text = &self.library[AROUND..][..length];
+        let row = |row| std::str::from_utf8(row).expect("a text");
+        text.chunks(ROW_LENGTH).map(row).collect()
+    }
+
+    /// Judged, run, listed and printed alike, with enough bytes lent.
     fn agree(&mut self, file: &[u8]) -> Result<(), u8> {
         let judged = judged(file);
         let ran = self.runs(file, ENOUGH_FOR_RECORDS);
@@ -90,6 +119,12 @@ impl Lent {
         }
         self.lists(file, ENOUGH_FOR_LISTING)
             .expect("the listing fits");
+        let printed = self.pages(file, ENOUGH_FOR_PAGES);
+        assert_eq!(printed.map(|_| ()), judged);
+        if let Ok(length) = printed {
+            let text = &self.library[AROUND..][..length];
+            assert!(text.chunks(ROW_LENGTH).all(is_row), "55 columns a row");
+        }
         judged
     }
 }
@@ -139,6 +174,12 @@ fn laid(record: &Record) -> [u8; RECORD_LENGTH] {
     bytes[16..20].copy_from_slice(&record.began.to_le_bytes());
     bytes[20..].copy_from_slice(&record.returned.unwrap_or(u32::MAX).to_le_bytes());
     bytes
+}
+
+/// 55 columns and a line feed.
+fn is_row(bytes: &[u8]) -> bool {
+    let printable = |byte: &u8| (b' '..=b'~').contains(byte);
+    bytes.len() == 56 && bytes[..55].iter().all(printable) && bytes[55] == b'\n'
 }
 
 /// The files of `examples/`, by name.
@@ -194,6 +235,126 @@ fn examples_list_as_expected() {
     }
 }
 
+/// As the program prints: the rows, or a refused file's number.
+#[test]
+fn examples_print_as_expected() {
+    for name in examples() {
+        let file = fs::read(&name).expect("an example");
+        let expected = fs::read(name.with_extension("page")).expect("its page");
+        let mut rows = vec![0; ENOUGH_FOR_PAGES];
+        let printed = match ccs::page(&file, &mut rows) {
+            Ok(length) => rows[..length].to_vec(),
+            Err(refusal) => format!("refused {}\n", refusal.number()).into_bytes(),
+        };
+        assert!(printed == expected, "{}", name.display());
+    }
+}
+
+const HEAD: &str = "no  th rq ans   value      by turn  remote     state   \n";
+
+/// A counter's threads add 5, so many calls in all, one after the other.
+fn calls_in_a_row(calls: usize) -> Given {
+    Given {
+        object: 2,
+        n: 16,
+        h: 1,
+        capacity: 0,
+        counts: (0..16)
+            .map(|thread| calls.saturating_sub(16 * thread).min(16) as u8)
+            .collect(),
+        requests: [2, 5, 0, 0, 0].repeat(calls),
+        schedule: (0..21 * calls).map(|i| (i / (21 * 16)) as u8).collect(),
+    }
+}
+
+/// Where pages begin: with a head row before records 0, 58, 116 and so on, and with one where there are no records.
+#[test]
+fn pages_of_so_many_records() {
+    let figures = [
+        (0, 56),
+        (1, 112),
+        (57, 3_248),
+        (58, 3_304),
+        (59, 3_416),
+        (116, 6_608),
+        (117, 6_720),
+        (256, 14_616),
+    ];
+    let mut lent = Lent::new();
+    for (records, length) in figures {
+        let file = calls_in_a_row(records).bytes();
+        let rows = lent.rows(&file);
+        assert_eq!(rows.concat().len(), length);
+        for (i, row) in rows.iter().enumerate() {
+            assert_eq!(*row == HEAD, i % (PAGE_RECORDS + 1) == 0);
+        }
+    }
+    assert_eq!(
+        lent.rows(&calls_in_a_row(256).bytes()).last(),
+        Some(&"255 15 15 value       1275 15   255          0 returned\n")
+    );
+}
+
+/// Numbers right, words and hyphens left: every answer and none, calls returned and open.
+#[test]
+fn pages_as_stated() {
+    let mut lent = Lent::new();
+    let mut counter = Given {
+        object: 2,
+        n: 1,
+        h: 1,
+        capacity: 0,
+        counts: vec![2],
+        requests: vec![2, 5, 0, 0, 0, 2, 7, 0, 0, 0],
+        schedule: vec![0; 42],
+    };
+    assert_eq!(
+        lent.rows(&counter.bytes()),
+        [
+            HEAD,
+            "  0  0  0 value          0  0     0          9 returned\n",
+            "  1  0  1 value          5  0     1          2 returned\n",
+        ]
+    );
+    counter.schedule.truncate(5);
+    assert_eq!(
+        lent.rows(&counter.bytes()),
+        [
+            HEAD,
+            "  0  0  0 none  -          -  -              4 open    \n",
+        ]
+    );
+    // before the Swap: two requests stand in the file, and the head row alone is printed
+    counter.schedule.truncate(4);
+    assert_eq!(lent.rows(&counter.bytes()), [HEAD]);
+
+    let queue = Given {
+        object: 0,
+        n: 1,
+        h: 1,
+        capacity: 1,
+        counts: vec![4],
+        requests: [
+            [0, 3, 0, 0, 0],
+            [0, 4, 0, 0, 0],
+            [1, 0, 0, 0, 0],
+            [1, 0, 0, 0, 0],
+        ]
+        .concat(),
+        schedule: vec![0; 84],
+    };
+    assert_eq!(
+        lent.rows(&queue.bytes()),
+        [
+            HEAD,
+            "  0  0  0 done  -           0     0          9 returned\n",
+            "  1  0  1 full  -           0     1          2 returned\n",
+            "  2  0  2 value          3  0     2          0 returned\n",
+            "  3  0  3 empty -           0     3          0 returned\n",
+        ]
+    );
+}
+
 #[test]
 fn random_files() {
     const FILES: usize = 400_000;
@@ -220,6 +381,7 @@ fn random_files() {
             refusals[13] += usize::from(number == 13);
         }
         let _ = lent.lists(&file, random.below(14));
+        let _ = lent.prints(&file);
     }
     // the inputs reach what they are made for
     assert!(accepted > FILES / 2, "{accepted} accepted");
@@ -409,12 +571,19 @@ fn every_lent_length() {
         for length in text.saturating_sub(60)..=text + 20 {
             assert_eq!(lent.lists(&file, length).is_err(), length < text);
         }
+        let rows = lent.pages(&file, LENT).expect("the pages fit");
+        for length in rows - ROW_LENGTH..=rows + ROW_LENGTH {
+            assert_eq!(lent.pages(&file, length).is_err(), length < rows);
+        }
         for length in file.len().saturating_sub(40)..=file.len() + 20 {
             assert_eq!(lent.writes(&given, length).is_err(), length < file.len());
         }
         if i < 20 {
             for length in 0..text {
                 assert_eq!(lent.lists(&file, length), Err(13));
+            }
+            for length in 0..rows {
+                assert_eq!(lent.pages(&file, length), Err(13));
             }
             for length in 0..file.len() {
                 assert_eq!(lent.writes(&given, length), Err(13));
@@ -443,6 +612,7 @@ fn large_lengths() {
     for length in [65_535, 65_536, 65_537, LENT] {
         lent.runs(&file, length).expect("enough bytes");
         lent.lists(&file, length).expect("enough bytes");
+        lent.pages(&file, length).expect("enough bytes");
         lent.writes(&longest(), length).expect("enough bytes");
     }
 }

@@ -65,6 +65,14 @@ static void refused(const char *name, size_t place, uint8_t byte, size_t length,
     same(name, ccs_list(changed, length, listing, sizeof listing, &told), CCS_ACCEPTED);
     same(name, told, (size_t)sprintf(text, "refused %d\n", expected));
     same(name, memcmp(listing, text, told) != 0, 0);
+
+    uint8_t pages[CCS_ENOUGH_FOR_PAGES];
+    memset(pages, PATTERN, sizeof pages);
+    told = 99;
+    same(name, ccs_page(changed, length, pages, sizeof pages, &told), expected);
+    same(name, told, 0);
+    for (size_t i = 0; i < sizeof pages; i++)
+        same(name, pages[i], PATTERN);
 }
 
 static void refused_files(void)
@@ -174,6 +182,48 @@ static void listed(void)
     same("behind the text", text[length], PATTERN);
 }
 
+static void printed(void)
+{
+    const size_t rows = 3 * CCS_ROW_LENGTH;
+    uint8_t pages[3 * CCS_ROW_LENGTH + 1];
+    size_t length = 99;
+    memset(pages, PATTERN, sizeof pages);
+    same("short page", ccs_page(file, file_length, pages, rows - 1, &length), CCS_REFUSED_BUFFER);
+    same("short page", length, 0);
+    for (size_t i = 0; i < sizeof pages; i++)
+        same("short page", pages[i], PATTERN);
+    same("page", ccs_page(file, file_length, pages, sizeof pages, &length), CCS_ACCEPTED);
+    same("page", length, rows);
+    same("head row", memcmp(pages, "no  th rq ans   value      by turn  remote     state   \n", CCS_ROW_LENGTH) != 0, 0);
+    same("first row", memcmp(pages + CCS_ROW_LENGTH, "  0  0  0 value          0  0     0 ", 36) != 0, 0);
+    same("second row", memcmp(pages + 2 * CCS_ROW_LENGTH, "  1  1  0 value          5  1     1 ", 36) != 0, 0);
+    same("behind the page", pages[rows], PATTERN);
+}
+
+/* The most records that a run has, 16 threads with 16 adds one after the other: their pages fit, and would not in a byte less. */
+static void most_rows(void)
+{
+    static uint8_t most[9 + 16 * 81 + 2 + 256 * 21] = {'C', 'C', 'S', 1, 0, 2, 16, 1, 0};
+    uint8_t *const schedule = most + 9 + 16 * 81 + 2;
+    for (size_t i = 0; i < 16; i++) {
+        most[9 + 81 * i] = 16;
+        for (size_t k = 0; k < 16; k++)
+            most[9 + 81 * i + 1 + 5 * k] = 2;
+        memset(schedule + 16 * 21 * i, (int)i, 16 * 21);
+    }
+    schedule[-2] = 256 * 21 % 256;
+    schedule[-1] = 256 * 21 / 256;
+
+    uint8_t pages[CCS_ENOUGH_FOR_PAGES];
+    size_t length;
+    same("most rows", ccs_page(most, sizeof most, pages, sizeof pages - 1, &length), CCS_REFUSED_BUFFER);
+    same("most rows", ccs_page(most, sizeof most, pages, sizeof pages, &length), CCS_ACCEPTED);
+    same("most rows", length, sizeof pages);
+    const uint8_t *second = pages + (1 + CCS_PAGE_RECORDS) * CCS_ROW_LENGTH;
+    same("second page", memcmp(second, pages, CCS_ROW_LENGTH) != 0, 0);
+    same("its first record", memcmp(second + CCS_ROW_LENGTH, " 58  3 10 ", 10) != 0, 0);
+}
+
 int main(void)
 {
     lay_file();
@@ -182,5 +232,7 @@ int main(void)
     most_records();
     written();
     listed();
+    printed();
+    most_rows();
     return differences > 0;
 }

@@ -1,9 +1,10 @@
-// The services for programs in other languages: judge, run, write and list, on numbers and byte slices.
+// The services for programs in other languages: judge, run, write, list and page, on numbers and byte slices.
 ghost use mathlib.Core.Path.{_≡_};
 ghost use Rattle.bench_file.specs.Promise.{judgedRefusal};
 ghost use Rattle.bench_writer.specs.Writer.{givenBy, WritesAs};
 ghost use Rattle.bench.specs.Promise.{Runs};
 ghost use Rattle.listing.specs.Promise.{Lists};
+ghost use Rattle.page.specs.Promise.{Prints};
 ghost use Rattle.ccs.specs.Numbers.{judgedNumbers, JudgedIn, answerIn, writtenIn, printedIn};
 use bench_file::Judged;
 
@@ -102,4 +103,14 @@ pub extern "C" fn ccs_list(file: &[u8], out: &mut [u8], length: &mut usize) -> u
     let listed = listing::list(file, out);
     *length = listed.length;
     listed.refusal
+}
+
+// Prints the pages of any bytes as a bench file into a lent buffer, and their length; the length of a refusal is 0.
+#[no_mangle]
+pub extern "C" fn ccs_page(file: &[u8], out: &mut [u8], length: &mut usize) -> u8
+    ensures { λ r. ⌜ Prints (now (file .entry)) (now (out .entry)) (now (out .exit)) (printedIn r (now (length .exit))) ⌝ }
+{
+    let pages = page::page(file, out);
+    *length = pages.length;
+    pages.refusal
 }

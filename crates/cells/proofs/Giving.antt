@@ -5,7 +5,7 @@ use native.Mathlib.Omega.{arith}
 use mathlib.Core.Path.{_≡_, refl, ap, _∙_}
 use mathlib.Core.List.{List}
 use lib.ListN.{length, take, drop}
-use lib.Seq.{take-at}
+use lib.Seq.{take-at, drop-at}
 use borrow.Author.Tests.{le-leb, lt-leb}
 use Rattle.object.proofs.Choice.{by-order}
 use Rattle.cells.specs.declared.Printed.{Printed}
@@ -34,6 +34,14 @@ module _ {words old new : List ℕ} {r : Printed} (g : Gives words old new r) wh
       (by-order (length old) (length words)
       (λ h. rw (lt-leb (length words) (length old) h) (omega arith))
       (λ h. rw (le-leb (length words) (length old) h) h))
+
+  -- and every byte behind it is as it was
+  pub untouched : drop (r .length) new ≡ drop (r .length) old
+  untouched =
+      rw (g .answer, g .buffer)
+      (by-order (length old) (length words)
+      (λ h. rw (lt-leb (length words) (length old) h))
+      (λ h. rw (le-leb (length words) (length old) h) (drop-at words (drop (length words) old) (length words) refl)))
 
   -- a buffer that is long enough is not refused
   pub not-refused : length words ≤ length old → r ≡ record { refusal = 0; length = length words }

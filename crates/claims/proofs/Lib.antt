@@ -3,6 +3,7 @@ pub mod CopiesSaid
 pub mod Counted
 pub mod Cut
 pub mod Filled
+pub mod InTurns
 pub mod Layers
 pub mod Left
 pub mod Marked

@@ -15,7 +15,7 @@ use Rattle.object.specs.declared.Answer.the-variants.{Empty}
 use Rattle.object.specs.Paper.{requestValue, answerMark, answerValue}
 use Rattle.object.specs.Plain.{fresh}
 use Rattle.object.specs.Each.{Each}
-use Rattle.object.proofs.Each.{each-there, each-take, each-map, each-getD-or, each-all, each-mapped, each-unmapped}
+use Rattle.object.proofs.Each.{each-there, each-getD, each-take, each-map, each-getD-or, each-all, each-mapped, each-unmapped}
 use Rattle.object.proofs.Choice.{by-equal, by-order, by-test}
 use Rattle.object.proofs.Fitting.{answers-fit}
 use Rattle.bench_file.specs.Layout.{Fields}
@@ -41,6 +41,7 @@ use Rattle.history.proofs.Sums.{one-each, cost-fits, tests-few, servings-few}
 use Rattle.history.proofs.Times.{number-below, number-none, number-most, by-numbers}
 use Rattle.history.proofs.Turns.{one-combiner}
 use Rattle.claims.specs.Claims.{RecordSized, ReturnedCall, Timed, Earlier, Claimed, HasAnswer, plainAnswers, askedOf, askedBy}
+use Rattle.claims.proofs.InTurns.{in-turns}
 use Rattle.claims.proofs.Bytes.{mark-below, record-sized, server-byte, state-byte, turn-bytes, began-bytes, returned-bytes}
 use Rattle.claims.proofs.Layers.{Layers, Bounded, jobsOf}
 use Rattle.claims.proofs.Meets.{one-turn}
@@ -97,6 +98,20 @@ module _ (f : Fields) (fits : InRange f) (s : State) (history : List Entry) (goi
 
   shown-there : (i : ℕ) → i < now .ledger .a → shownOf (swapAt history i) (servings history) ≡ shown (getD (servings history) i none)
   shown-there i b = shown-at (now .swaps) (now .control .order .applied) i none noCall b
+
+  -- what serves is a thread of the file
+  served-by : (i : ℕ) → i < howMany Applies history → shownOf (swapAt history i) (servings history) .server .0 < f .head .n
+  served-by i b =
+      rw (shown-there i (omega (arith, requests-applied)))
+      (omega (arith, each-getD (λ (w : Serving). w .server .0 < s .n) (servings history) i none (now .servers) (omega (arith, all-served, requests-applied)), going .n))
+
+  served-in : (i : ℕ) → i < howMany Applies history → shownOf (swapAt history i) (servings history) .turn < howMany TurnBegins history
+  served-in i b =
+      rw (shown-there i (omega (arith, requests-applied)))
+      (each-getD (λ (w : Serving). w .turn < howMany TurnBegins history) (servings history) i none (in-turns history (now .by-combiner)) (omega (arith, all-served, requests-applied)))
+
+  unserved : (i : ℕ) → howMany Applies history ≤ i → i < howMany Swaps history → shownOf (swapAt history i) (servings history) ≡ unshown
+  unserved i low high = shown-none (now .swaps) (now .control .order .applied) i noCall (omega (arith, requests-applied)) (omega (arith, swaps-done))
 
   shows-answer : (i : ℕ) → i < howMany Applies history
       → HasAnswer (getD (recordsOf history) i []) (answerMark (getD (plainAnswers f history) i Empty)) (answerValue (getD (plainAnswers f history) i Empty))
@@ -225,11 +240,12 @@ module _ (f : Fields) (fits : InRange f) (s : State) (history : List Entry) (goi
     bytes = record-bytes;
     names = λ i b. names history i noCall (swap-there i b);
     shows-answer = shows-answer;
-    shows-none = λ i a b.
-        record-shows history i noCall unshown (swap-there i b)
-        (shown-none (now .swaps) (now .control .order .applied) i noCall (omega (arith, requests-applied)) (omega (arith, swaps-done)));
+    shows-none = λ i a b. record-shows history i noCall unshown (swap-there i b) (unserved i a b);
     server = in-record 3 1 (λ c. shownOf c (servings history) .server .0) (server-byte history);
     turn = in-record 13 2 (λ c. shownOf c (servings history) .turn) (λ c. turn-bytes history c (turn-fits c));
+    served-by = served-by;
+    served-in = served-in;
+    unserved = unserved;
     value-fits = value-fits;
     one-combiner = λ t u p q. ap threadId (one-combiner (one-turn (now .control)) (now .turns) (t .0) (u .0) p q);
     combiner-applies = now .by-combiner;

@@ -26,7 +26,7 @@ use Rattle.step.specs.Entry.{oneIf, zeroThread}
 use Rattle.step.specs.Steps.{stepsOf}
 use Rattle.history.specs.Entries.{Entry, happened, is, howMany}
 use Rattle.history.specs.Copies.{RemoteAsSaid}
-use Rattle.history.specs.Terms.{Call, begunBy, callOf, swapOrder, swapAt, noTurn, turnOfCall, combines, Serving, servings, servedIn, costOf, returned, combined, returns, Shown, shownOf, noEntry, numberOf, beganAt, swappedAt, returnedAt, precedes, retMark, retValue, recordLength, numberAt, recordsOf, countsOf}
+use Rattle.history.specs.Terms.{Call, begunBy, callOf, swapOrder, swapAt, noTurn, turnOfCall, combines, Serving, servings, servedIn, costOf, returned, combined, returns, Shown, unshown, shownOf, noEntry, numberOf, beganAt, swappedAt, returnedAt, precedes, retMark, retValue, recordLength, numberAt, recordsOf, countsOf}
 use Rattle.claims.specs.Entries.{startOf, stateAfter, entriesOf, historyOf, cut}
 
 -- the file's requests of a thread, and its request of a call. Past these, where no call of a run is (`of-the-file`), it is put 0
@@ -94,7 +94,7 @@ pub record Holds (f : Fields) (history : List Entry) (s a : ℕ) : Type 0 where
   pub requests : map (λ (w : Serving). w .req) (servings history) ≡ map (λ (c : Call). Asked (askedBy f c)) (take a (swapOrder history))
   pub answers : map (λ (w : Serving). w .answer) (servings history) ≡ map Answered (take a (plainAnswers f history))
   -- 2: there are s records, of `recordLength` bytes. Record i names the thread and request of Swap i, shows the plain object's answer i, whose value has 32 bits, or
-  -- none from a on, and which thread served it in which turn
+  -- none from a on, and which thread of the file served it, in which turn that has begun, or none
   pub records : length (recordsOf history) ≡ s
   pub bytes : Each RecordSized (recordsOf history)
   pub names : (i : ℕ) → i < s → take 2 (getD (recordsOf history) i []) ≡ swapAt history i .thread .0 ∷ swapAt history i .request ∷ []
@@ -103,6 +103,9 @@ pub record Holds (f : Fields) (history : List Entry) (s a : ℕ) : Type 0 where
   pub shows-none : (i : ℕ) → a ≤ i → i < s → HasAnswer (getD (recordsOf history) i []) 255 0
   pub server : (i : ℕ) → i < s → numberAt (getD (recordsOf history) i []) 3 1 ≡ shownOf (swapAt history i) (servings history) .server .0
   pub turn : (i : ℕ) → i < s → numberAt (getD (recordsOf history) i []) 13 2 ≡ shownOf (swapAt history i) (servings history) .turn
+  pub served-by : (i : ℕ) → i < a → shownOf (swapAt history i) (servings history) .server .0 < f .head .n
+  pub served-in : (i : ℕ) → i < a → shownOf (swapAt history i) (servings history) .turn < howMany TurnBegins history
+  pub unserved : (i : ℕ) → a ≤ i → i < s → shownOf (swapAt history i) (servings history) ≡ unshown
   pub value-fits : (c : Call) → retValue (shownOf c (servings history) .ret) < 2 ^ 32
   -- 3: at most one thread is combiner, and no other applies a request
   pub one-combiner : (t u : ThreadId) → combines t history ≡ true → combines u history ≡ true → t ≡ u

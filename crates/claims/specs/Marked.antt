@@ -80,6 +80,10 @@ alone object capacity requests entries = fileOf object 1 1 capacity (requests �
 abbrev pub twoAdds : ℕ → List ℕ
 twoAdds entries = alone Counter 0 (Add 5 ∷ Add 7 ∷ []) entries
 
+-- every answer of a queue of capacity 1: done, full, value and empty
+abbrev pub everyAnswer : List ℕ
+everyAnswer = alone Queue 1 (Put 3 ∷ Put 4 ∷ Take ∷ Take ∷ []) 84
+
 -- queue, capacity 4, n = 2; thread 0 puts 7, thread 1 takes. Entries 0 eight times, 1 nine times, then 0 and 1 so many times
 abbrev pub putAndTake : ℕ → ℕ → ℕ → List ℕ
 putAndTake h zeros ones =

@@ -1,17 +1,23 @@
--- Document 01's 64-byte file gives exactly its three lines, and cut to 5 entries a line with hyphens, by computation. Assumes nothing.
+-- The example files give exactly their listings, by computation: document 01's 64-byte file its three lines. Assumes nothing.
+use Prim.Native.Nat.{ℕ}
 use mathlib.Core.Path.{_≡_, refl}
-use mathlib.Core.List.{[], _∷_}
+use mathlib.Core.List.{List, [], _∷_, map}
+use Rattle.object.specs.declared.Kind.the-variants.{Stack}
+use Rattle.object.specs.declared.Request.the-variants.{Take}
 use Rattle.bench_file.specs.Reading.{field, littleEndian, byte, ruledByte, several, end}
 use Rattle.bench_file.specs.Layout.{startReader, limitsReader, headReader, requestReader, rowReader, scheduleReader, fileReader, judgeOf}
 use Rattle.bench_file.specs.Bytes.{lowFirst, eachBytes, bytesOf}
 use Rattle.bench_file.specs.Examples.{sixtyFour}
 use Rattle.claims.specs.Entries.{entriesFrom}
-use Rattle.claims.specs.Marked.{twoAdds}
+use Rattle.claims.specs.Marked.{alone, twoAdds, everyAnswer, putAndTake}
 use Rattle.cells.specs.Text.{digits, numbered}
 use Rattle.cells.specs.Cells.{recordCells}
-use Rattle.listing.specs.Examples.{sixtyFourListing, openListing}
+use Rattle.cells.specs.Promise.{refusalLine}
+use Rattle.listing.specs.Examples.{exampleListings}
 use Rattle.listing.specs.Listing.{headLine, recordLine, listingOf}
 
-pub sixty-four-listed : listingOf (judgeOf sixtyFour) ∷ listingOf (judgeOf (twoAdds 5)) ∷ [] ≡ sixtyFourListing ∷ openListing ∷ []
-unfolding judgeOf fileReader headReader startReader limitsReader rowReader requestReader scheduleReader ruledByte byte several field littleEndian end lowFirst eachBytes bytesOf sixtyFour entriesFrom digits numbered recordCells headLine recordLine listingOf sixtyFourListing openListing
-sixty-four-listed = refl
+pub examples-listed
+    : map (λ (file : List ℕ). listingOf (judgeOf file)) (sixtyFour ∷ twoAdds 20 ∷ twoAdds 5 ∷ everyAnswer ∷ alone Stack 1 (Take ∷ []) 21 ∷ putAndTake 1 13 13 ∷ [] ∷ [])
+    ≡ exampleListings
+unfolding judgeOf fileReader headReader startReader limitsReader rowReader requestReader scheduleReader ruledByte byte several field littleEndian end lowFirst eachBytes bytesOf sixtyFour entriesFrom digits numbered recordCells refusalLine headLine recordLine listingOf exampleListings
+examples-listed = refl

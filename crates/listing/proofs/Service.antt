@@ -16,7 +16,7 @@ use Rattle.bench.proofs.InPlace.{laid-count}
 use Rattle.cells.specs.declared.Printed.{Printed}
 use Rattle.cells.specs.Text.{numbered}
 use Rattle.cells.specs.Promise.{Gives, refusalLine}
-use Rattle.cells.proofs.Giving.{inside, not-refused, stands}
+use Rattle.cells.proofs.Giving.{inside, untouched, not-refused, stands}
 use Rattle.cells.proofs.Words.{refusal-length}
 use Rattle.listing.specs.Listing.{headLine, recordLine, listingOf}
 use Rattle.listing.specs.Promise.{enoughBytes, Lists}
@@ -34,7 +34,7 @@ refusal-listed j e = rw (refused-number j e)
 
 -- what is given of a file's listing is promised
 lists : (bytes : List ℕ) {words old new : List ℕ} {r : Printed} → words ≡ listingOf (judgeOf bytes) → length words ≤ enoughBytes → Gives words old new r → Lists bytes old new r
-lists bytes e most g = record { gives = rw (← e) g; enough = λ room. ap (λ (a : Printed). a .refusal) (not-refused g (omega arith)); inside = inside g }
+lists bytes e most g = record { gives = rw (← e) g; enough = λ room. ap (λ (a : Printed). a .refusal) (not-refused g (omega arith)); inside = inside g; untouched = untouched g }
 
 pub lists-run : (bytes records : List ℕ) (counts : Counts) (head : Head) {old new : List ℕ} {r : Printed} → Ran bytes records counts head
     → Gives (headLine head counts ++ numbered recordLine 0 (recordsLaid (counts .records) records)) old new r → Lists bytes old new r

@@ -2,7 +2,7 @@
 use Prim.Native.Nat.{ℕ, _+_, _*_, _≤_}
 use mathlib.Core.Path.{_≡_}
 use mathlib.Core.List.{List}
-use lib.ListN.{length}
+use lib.ListN.{length, drop}
 use Rattle.bench_file.specs.Layout.{judgeOf}
 use Rattle.machine.specs.Sizes.{mostCalls}
 use Rattle.cells.specs.declared.Printed.{Printed}
@@ -26,5 +26,6 @@ pub record Lists (bytes old new : List ℕ) (r : Printed) : Type 0 where
   pub gives : Gives (listingOf (judgeOf bytes)) old new r
   -- so many bytes are never too few
   pub enough : enoughBytes ≤ length old → r .refusal ≡ 0
-  -- the length is within the buffer
+  -- the length is within the buffer, and every byte behind it is as it was; a refusal has length 0
   pub inside : r .length ≤ length old
+  pub untouched : drop (r .length) new ≡ drop (r .length) old

@@ -1,5 +1,5 @@
-//! An independent implementation of document 01, with request No. 1 of document 02, and of Algorithm 1
-//! in source 004 (CC-Synch), written from these papers, with expected listings to try it on, and without the code that it is compared with.
+//! An independent implementation of document 01, with requests No. 1 and 2 of document 02, and of Algorithm 1
+//! in source 004 (CC-Synch), written from these papers, with expected listings and pages to try it on, and without the code that it is compared with.
 
 // Each user of this module needs only a part of it.
 #![allow(dead_code)]
@@ -112,6 +112,18 @@ pub fn list(file: &[u8], out: &mut [u8]) -> Result<usize, u8> {
         (Ok(bench), Ok(counts)) => listing(&bench, &counts, &records),
         (Err(refusal), _) | (_, Err(refusal)) => format!("refused {refusal}\n"),
     };
+    give(&text, out)
+}
+
+/// Writes the pages of a file's run: the length written. 13 is by the rows of the run.
+pub fn page(file: &[u8], out: &mut [u8]) -> Result<usize, u8> {
+    let mut records = [0; RECORD * 16 * 16];
+    let counts = run(file, &mut records)?;
+    give(&pages(&counts, &records), out)
+}
+
+/// Copies a text to a lent buffer, if it fits.
+fn give(text: &str, out: &mut [u8]) -> Result<usize, u8> {
     let lent = out.get_mut(..text.len()).ok_or(13)?;
     lent.copy_from_slice(text.as_bytes());
     Ok(text.len())
@@ -637,20 +649,14 @@ fn listing(bench: &Bench, counts: &Counts, records: &[u8]) -> String {
 
 fn line_of_record(text: &mut String, order: usize, record: &[u8]) {
     let (thread, request, server) = (record[0], record[1], record[3]);
-    let word = match record[2] {
-        DONE => "done",
-        VALUE => "value",
-        EMPTY => "empty",
-        FULL => "full",
-        _ => "none",
-    };
+    let word = mark_word(record);
     let value = or_hyphen(record[2] == VALUE, number_at(record, 4));
     let served = record[2] != NONE;
     let server = or_hyphen(served, server.into());
-    let turn = or_hyphen(served, u16::from_le_bytes([record[13], record[14]]).into());
+    let turn = or_hyphen(served, turn_of(record));
     let remote = number_at(record, 8);
     let returned = record[12] == 1;
-    let state = if returned { "returned" } else { "open" };
+    let state = state_word(record);
     let began = number_at(record, 16);
     let returned_at = or_hyphen(returned, number_at(record, 20));
     // Writing to a string does not fail.
@@ -660,10 +666,79 @@ fn line_of_record(text: &mut String, order: usize, record: &[u8]) {
     );
 }
 
+fn mark_word(record: &[u8]) -> &'static str {
+    match record[2] {
+        DONE => "done",
+        VALUE => "value",
+        EMPTY => "empty",
+        FULL => "full",
+        _ => "none",
+    }
+}
+
+fn state_word(record: &[u8]) -> &'static str {
+    if record[12] == 1 {
+        "returned"
+    } else {
+        "open"
+    }
+}
+
+fn turn_of(record: &[u8]) -> u32 {
+    u16::from_le_bytes([record[13], record[14]]).into()
+}
+
 fn or_hyphen(given: bool, number: u32) -> String {
     if given {
         number.to_string()
     } else {
         "-".to_string()
+    }
+}
+
+// ---- The pages ----
+
+/// The records of a page, at most.
+const PAGE: usize = 58;
+
+/// The head row: each word left in its column, of 3, 2, 2, 5, 10, 2, 5, 10 and 8.
+const HEAD: &str = "no  th rq ans   value      by turn  remote     state   \n";
+
+fn pages(counts: &Counts, records: &[u8]) -> String {
+    let rows: Vec<String> = records
+        .chunks_exact(RECORD)
+        .take(counts.records as usize)
+        .enumerate()
+        .map(|(order, record)| row_of_record(order, record))
+        .collect();
+    if rows.is_empty() {
+        return HEAD.to_string();
+    }
+    rows.chunks(PAGE)
+        .map(|rows| HEAD.to_string() + &rows.concat())
+        .collect()
+}
+
+/// Numbers right in their columns, words and hyphens left.
+fn row_of_record(order: usize, record: &[u8]) -> String {
+    let (thread, request) = (record[0], record[1]);
+    let word = mark_word(record);
+    let served = record[2] != NONE;
+    let value = column(10, record[2] == VALUE, number_at(record, 4));
+    let server = column(2, served, record[3].into());
+    let turn = column(5, served, turn_of(record));
+    let remote = number_at(record, 8);
+    let state = state_word(record);
+    format!(
+        "{order:>3} {thread:>2} {request:>2} {word:<5} {value} {server} {turn} {remote:>10} {state:<8}\n"
+    )
+}
+
+/// A number right in a column, or a hyphen left in it.
+fn column(width: usize, given: bool, number: u32) -> String {
+    if given {
+        format!("{number:>width$}")
+    } else {
+        format!("{:<width$}", "-")
     }
 }

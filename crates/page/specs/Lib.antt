@@ -1,0 +1,4 @@
+pub mod Examples
+pub mod Pages
+pub mod Promise
+pub mod Table
