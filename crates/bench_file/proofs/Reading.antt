@@ -1,14 +1,14 @@
 -- Laws of the readers of specs/Reading.antt at a place of a file: what a field finds there. Assumes nothing.
 use Prim.Native.Nat.{ℕ, zero, suc, _+_, _*_, _≤_, _<_}
-use native.Mathlib.Nat.{le-of-suc-le-suc, not-suc-le-zero, add-assoc}
+use native.Mathlib.Nat.{le-of-suc-le-suc, not-suc-le-zero}
 use native.Mathlib.Decide.{decLe}
-use native.Mathlib.Numerals.{add-one}
+use native.Mathlib.Numerals.{add-one, add-two}
 use native.Mathlib.Omega.{arith}
-use mathlib.Core.Path.{_≡_, refl, sym, ap, _∙_}
+use mathlib.Core.Path.{_≡_, refl, sym, _∙_}
 use mathlib.Core.Bool.{Bool, true, false, _&&_}
 use mathlib.Core.List.{List, [], _∷_}
 use lib.ListN.{length, getD, take, drop, drop-of-length-le, length-drop}
-use lib.Seq.{drop-cons, drop-drop}
+use lib.Seq.{take-nil, drop-cons, drop-drop}
 use lib.Dec.{eqb}
 use borrow.Author.Tests.{eq-eqb, ne-eqb}
 use Rattle.bench_file.specs.Layout.{isMark}
@@ -83,18 +83,23 @@ inside s at refusal test {b} {rest} e =
       | no h ↦ omega arith
     ]
 
--- the numbers of two and of four bytes at a place
+-- a number of bytes at a place has its lowest byte first; bytes past the end count as 0
+low-at : (s : List ℕ) (at width : ℕ) → littleEndian (take (suc width) (drop at s)) ≡ getD s at 0 + 256 * littleEndian (take width (drop (suc at) s))
+unfolding littleEndian
+low-at [] zero width = rw (take-nil width)
+low-at [] (suc at) width = rw (take-nil width)
+low-at (b ∷ s) zero width = refl
+low-at (b ∷ s) (suc at) width = low-at s at width
+
+-- the numbers of two and of four bytes
 module _ (s : List ℕ) (at : ℕ) where
-  two-cons : at + 2 ≤ length s → drop at s ≡ getD s at 0 ∷ getD s (at + 1) 0 ∷ drop (at + 2) s
-  two-cons h = cons-at s at (omega arith) ∙ ap (λ (l : List ℕ). getD s at 0 ∷ l) (cons-at s (at + 1) (omega arith) ∙ rw add-assoc)
-
-  pub two-at : at + 2 ≤ length s → littleEndian (take 2 (drop at s)) ≡ getD s at 0 + 256 * getD s (at + 1) 0
+  pub two-at : littleEndian (take 2 (drop at s)) ≡ getD s at 0 + 256 * getD s (at + 1) 0
   unfolding littleEndian
-  two-at h = rw two-cons (omega arith)
+  two-at = rw add-one (omega (arith, low-at s at 1, low-at s (suc at) 0))
 
-  pub four-at : at + 4 ≤ length s → littleEndian (take 4 (drop at s)) ≡ littleEndian (take 2 (drop at s)) + 65536 * littleEndian (take 2 (drop (at + 2) s))
+  pub four-at : littleEndian (take 4 (drop at s)) ≡ littleEndian (take 2 (drop at s)) + 65536 * littleEndian (take 2 (drop (at + 2) s))
   unfolding littleEndian
-  four-at h = let g : at + 2 ≤ length s = omega arith in rw two-cons (omega arith)
+  four-at = rw add-two (omega (arith, low-at s at 3, low-at s (suc at) 2, low-at s at 1, low-at s (suc at) 0))
 
 pub mark-at : (s : List ℕ) → isMark (take 3 s) ≡ (eqb (getD s 0 0) 0x43 && eqb (getD s 1 0) 0x43 && eqb (getD s 2 0) 0x53)
 mark-at [] = refl

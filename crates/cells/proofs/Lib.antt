@@ -2,7 +2,6 @@ pub mod Decimal
 pub mod Giving
 pub mod Laid
 pub mod Numbered
-pub mod Numbers
 pub mod Rows
 pub mod Shown
 pub mod Words

@@ -1,5 +1,6 @@
 -- Laws of rows: the columns by their places, a row as its columns one behind the other, a row of width 0, and how long a line is. Assumes nothing.
 use Prim.Native.Nat.{ℕ, zero, suc, _+_, _-_, _<_}
+use native.Mathlib.Nat.{zero-sub}
 use native.Mathlib.Omega.{arith}
 use mathlib.Core.Path.{_≡_, refl, ap, ap₂, _∙_}
 use mathlib.Core.List.{List, [], _∷_, _++_, map, zipWith, append-nil, append-assoc}
@@ -56,13 +57,10 @@ unfolding numbered
 line-spaced [] = refl
 line-spaced (word ∷ words) = behind-word 1 word (lineEnd words) words (line-end 0 words)
 
-no-less : (k : ℕ) → 0 - k ≡ 0
-no-less k = omega arith
-
 -- a row whose columns have no width of their own is the line of its cells
 bare : (cell : Cell) → inColumn 0 cell ≡ cellText cell
-bare (Number n) = ap (λ (count : ℕ). spaces count ++ decimal n) (no-less (length (decimal n)))
-bare (Says word) = ap (λ (count : ℕ). wordText word ++ spaces count) (no-less (length (wordText word))) ∙ append-nil (wordText word)
+bare (Number n) = ap (λ (count : ℕ). spaces count ++ decimal n) (zero-sub (length (decimal n)))
+bare (Says word) = ap (λ (count : ℕ). wordText word ++ spaces count) (zero-sub (length (wordText word))) ∙ append-nil (wordText word)
 
 columns-bare : (cells : List Cell) → columns (replicate (length cells) 0) cells ≡ map cellText cells
 unfolding zipWith

@@ -2,12 +2,12 @@
 use Prim.Native.Nat.{_<_}
 use native.Mathlib.Omega.{arith}
 use mathlib.Core.Path.{_≡_, refl, sym, _∙_}
-use mathlib.Core.Bool.{Bool, true, false, cond, not, _&&_, _||_, false≢true, and-eq-true-iff}
+use mathlib.Core.Bool.{Bool, true, false, cond, not, _&&_, false≢true, and-eq-true-iff}
 use mathlib.Core.List.{List, [], _∷_}
 use lib.Dec.{eqb}
 use Rattle.object.specs.Each.{Each}
 use Rattle.object.proofs.Each.{each-append, each-map}
-use Rattle.object.proofs.Choice.{by-test}
+use Rattle.object.proofs.Choice.{by-test, both-fail}
 use Rattle.machine.specs.declared.ThreadId.{ThreadId}
 use Rattle.machine.specs.declared.Event.the-variants.{TurnBegins, Applies, TurnEnds}
 use Rattle.history.specs.Entries.{Entry, happened, is, isBy, howMany}
@@ -26,11 +26,6 @@ turn-begun t (e ∷ past) told =
     let begins : is TurnBegins e ≡ true = rw (other, ends) at told in
     absurd (false≢true (sym other ∙ rw (its, begins))))
     (λ neither. rw other (omega (arith, turn-begun t past (rw (other, neither) at told)))))
-
--- two tests of which neither passes
-both-fail : (a b : Bool) → (a || b) ≡ false → (a ≡ false) × (b ≡ false)
-both-fail true b e = absurd (false≢true (sym e))
-both-fail false b e = (refl, e)
 
 -- one that is not outside a turn is in one
 inside : (applies combining : Bool) → (applies && not combining) ≡ false → applies ≡ true → combining ≡ true

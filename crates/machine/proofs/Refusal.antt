@@ -2,8 +2,9 @@
 use Prim.Native.Nat.{ℕ, _<_}
 use native.Mathlib.Omega.{arith}
 use mathlib.Core.Path.{_≡_, refl}
-use mathlib.Core.Bool.{Bool, true, false, cond, _||_}
+use mathlib.Core.Bool.{Bool, true, false, cond}
 use borrow.Author.Tests.{leb-false}
+use Rattle.object.proofs.Choice.{both-fail}
 use Rattle.object.specs.declared.Request.{Request}
 use Rattle.object.specs.declared.Answer.{Answer}
 use Rattle.machine.specs.declared.NodeId.{NodeId}
@@ -14,19 +15,15 @@ use Rattle.machine.specs.Lines.{lineOf, lineRun}
 use Rattle.machine.specs.Effect.{takesOut, executed, refusedEffect, effectOf}
 use Rattle.machine.proofs.Written.{told}
 
-left-false : (a b : Bool) → (a || b) ≡ false → a ≡ false
-left-false true b e = e
-left-false false b e = refl
-
 module _ (th : Thread) (x : Node) (h : ℕ) {line : ℕ} where
   -- a call begins only where a request is left
   pub begun-below : takesOut th x h line ≡ false → line ≡ 1 → th .begun < th .count
   begun-below e k =
-      leb-false (th .count) (th .begun) (left-false _ _ (left-false _ _ (left-false _ _ (rw k at e))))
+      leb-false (th .count) (th .begun) (both-fail _ _ (both-fail _ _ (both-fail _ _ (rw k at e) .0) .0) .0)
 
   -- and the served counter grows only below h
   pub served-below : takesOut th x h line ≡ false → line ≡ 14 → th .served < h
-  served-below e k = leb-false h (th .served) (left-false _ _ (left-false _ _ (rw k at e)))
+  served-below e k = leb-false h (th .served) (both-fail _ _ (both-fail _ _ (rw k at e) .0) .0)
 
 module _ (th : Thread) (x : Node) (tail : NodeId) (h : ℕ) (request : Request) (answer : Answer) where
   abbrev line : ℕ

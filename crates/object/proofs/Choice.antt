@@ -1,8 +1,8 @@
--- A choice by two numbers, or by a test. Assumes nothing.
+-- A choice by two numbers, or by a test, and two tests of which neither passes. Assumes nothing.
 use Prim.Native.Nat.{ℕ, _≤_, _<_}
 use native.Mathlib.Decide.{ℕ-discrete}
-use mathlib.Core.Path.{_≡_, refl}
-use mathlib.Core.Bool.{Bool, true, false}
+use mathlib.Core.Path.{_≡_, refl, sym}
+use mathlib.Core.Bool.{Bool, true, false, _||_, false≢true}
 use lib.Dec.{ltb}
 use borrow.Author.Tests.{ltb-true, ltb-false}
 
@@ -25,3 +25,8 @@ by-order {P} j k under over = go (ltb j k) refl
 pub by-test : {P : Type 0} (b : Bool) → (b ≡ true → P) → (b ≡ false → P) → P
 by-test true on off = on refl
 by-test false on off = off refl
+
+-- two tests of which neither passes
+pub both-fail : (a b : Bool) → (a || b) ≡ false → (a ≡ false) × (b ≡ false)
+both-fail true b e = absurd (false≢true (sym e))
+both-fail false b e = (refl, e)

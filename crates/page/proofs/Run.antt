@@ -31,7 +31,7 @@ use Rattle.cells.proofs.Decimal.{at-most, no-longer}
 use Rattle.cells.proofs.Shown.{row-shown}
 use Rattle.cells.proofs.Words.{in-table, mark-length}
 use Rattle.page.specs.Pages.{pagesText, indexed}
-use Rattle.page.specs.Table.{Numbered32, Fits, Table}
+use Rattle.page.specs.Table.{In32Bits, Fits, Table}
 use Rattle.page.specs.Promise.{pageRows, enoughForPages}
 use Rattle.page.proofs.Paging.{paged, paged-only, five-pages}
 use Rattle.page.proofs.Places.{row-in-place, head-in-place}
@@ -40,7 +40,7 @@ use Rattle.page.proofs.Width.{row-in-pitch, head-in-pitch, pages-long}
 
 -- a cell that fits a column
 abbrev FitsIn : ℕ → Cell → Type 0
-FitsIn width cell = (length (cellText cell) ≤ width) × Numbered32 cell
+FitsIn width cell = (length (cellText cell) ≤ width) × In32Bits cell
 
 number-fits : (width n : ℕ) → n < 10 ^ suc width → n < 2 ^ 32 → FitsIn (suc width) (Number n)
 number-fits width n small b = (no-longer 9 width n small, b)

@@ -24,7 +24,7 @@ use Rattle.cells.specs.Cells.{wordNumber, wordText, cellText, retOf, markWord, 
 use Rattle.cells.specs.Rows.{inColumn, columns, rowText}
 use Rattle.cells.proofs.Decimal.{IsDigit, decimal-digits, decimal-length, read-back, said}
 use Rattle.page.specs.Pages.{widths, pageRow, headRow}
-use Rattle.page.specs.Table.{Numbered32, CellsFit, Fits, Apart}
+use Rattle.page.specs.Table.{In32Bits, CellsFit, Fits, Apart}
 
 -- a text without its spaces
 abbrev pub unspaced : List ℕ → List ℕ
@@ -84,7 +84,7 @@ word-told Open = record { visible = refl; no-spaces = refl; back = refl }
 small : (n : ℕ) → n < 2 ^ 32 → n < 10 ^ 10
 small n b = omega arith
 
-cell-back : (cell : Cell) → Numbered32 cell → cellOf (cellText cell) ≡ cell
+cell-back : (cell : Cell) → In32Bits cell → cellOf (cellText cell) ≡ cell
 cell-back (Number n) b =
     let h = small n b in
     let first = each-getD IsDigit (decimal n) 0 0 (decimal-digits n h) (decimal-length n h .0) in
@@ -92,7 +92,7 @@ cell-back (Number n) b =
 cell-back (Says word) b = word-told word .back
 
 -- and its text from its column, which is as wide as it should be
-column-back : (width : ℕ) (cell : Cell) → Numbered32 cell → cellOf (unspaced (inColumn width cell)) ≡ cell
+column-back : (width : ℕ) (cell : Cell) → In32Bits cell → cellOf (unspaced (inColumn width cell)) ≡ cell
 column-back width (Number n) b =
     ap cellOf (unspaced-append (spaces (width - length (decimal n))) (decimal n) ∙ ap₂ _++_ (unspaced-spaces (width - length (decimal n))) (digits-unspaced (decimal n) (decimal-digits n (small n b))))
     ∙ cell-back (Number n) b

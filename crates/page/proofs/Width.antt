@@ -19,7 +19,7 @@ use Rattle.cells.specs.Rows.{inColumn, columns, rowText, gap}
 use Rattle.cells.proofs.Decimal.{decimal-digits}
 use Rattle.cells.proofs.Rows.{spaced, line-spaced, taken, line-length}
 use Rattle.page.specs.Pages.{widths, rowLength, pageRow, headRow, pageText, pagesOf, pagesText}
-use Rattle.page.specs.Table.{Numbered32, CellsFit, Fits, FixedPitch}
+use Rattle.page.specs.Table.{In32Bits, CellsFit, Fits, FixedPitch}
 use Rattle.page.proofs.Paging.{paged}
 use Rattle.page.proofs.Telling.{isVisible, word-told, column-wide}
 
@@ -55,7 +55,7 @@ spaces-visible : (count : ℕ) → Each Visible (spaces count)
 spaces-visible zero = tt
 spaces-visible (suc count) = (omega arith, spaces-visible count)
 
-column-visible : (width : ℕ) (cell : Cell) → Numbered32 cell → Each Visible (inColumn width cell)
+column-visible : (width : ℕ) (cell : Cell) → In32Bits cell → Each Visible (inColumn width cell)
 column-visible width (Number n) b =
     each-append Visible (spaces (width - length (decimal n))) (decimal n) (spaces-visible (width - length (decimal n))) (each-map (λ c h. omega (arith, h)) (decimal n) (decimal-digits n (omega arith)))
 column-visible width (Says word) b =

@@ -23,15 +23,15 @@ pub record Paged {A : Type 0} (rows : List A) (pages : List (List A)) : Type 0 w
   pub never-else : (k : ℕ) → k < length pages → getD pages k [] ≡ [] → rows ≡ []
 
 -- a number of the bench has 32 bits
-abbrev pub Numbered32 : Cell → Type 0
-Numbered32 (Number n) = n < 2 ^ 32
-Numbered32 (Says word) = Unit
+abbrev pub In32Bits : Cell → Type 0
+In32Bits (Number n) = n < 2 ^ 32
+In32Bits (Says word) = Unit
 
 -- each cell fits its column
 abbrev pub CellsFit : List ℕ → List Cell → Type 0
 CellsFit [] cells = Unit
 CellsFit (width ∷ widths) [] = ⊥
-CellsFit (width ∷ widths) (cell ∷ cells) = (length (cellText cell) ≤ width) × Numbered32 cell × CellsFit widths cells
+CellsFit (width ∷ widths) (cell ∷ cells) = (length (cellText cell) ≤ width) × In32Bits cell × CellsFit widths cells
 
 abbrev pub Fits : Row → Type 0
 Fits row = CellsFit widths (rowCells row)

@@ -27,7 +27,7 @@ add-result : tie.Need-add-result
 add-result c = search needs
 
 returns : tie.Need-returns
-returns c = let a = c .before .before .before .before .before .args in (omega (arith, two-at (a .s .now) (a .at) (c .before .before .before .before .before .pre)), omega arith)
+returns c = let a = c .before .before .before .before .before .args in (omega (arith, two-at (a .s .now) (a .at)), omega arith)
 
 pub number2-spec : {M : Type 1} → statement M
 number2-spec =

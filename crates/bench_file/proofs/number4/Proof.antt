@@ -21,7 +21,7 @@ add-result : tie.Need-add-result
 add-result c = search needs
 
 returns : tie.Need-returns
-returns c = let a = c .before .before .before .args in omega (arith, four-at (a .s .now) (a .at) (c .before .before .before .pre))
+returns c = let a = c .before .before .before .args in omega (arith, four-at (a .s .now) (a .at))
 
 pub number4-spec : {M : Type 1} → statement M
 number4-spec =

@@ -1,7 +1,7 @@
 -- `cells::number2` meets its contract: the lower byte first. Assumes nothing.
 use native.Mathlib.Omega.{arith}
 use borrow.Author.Needs.{needs}
-use Rattle.cells.proofs.Numbers.{two-bytes}
+use Rattle.bench_file.proofs.Reading.{two-at}
 use Rattle.cells.proofs.number2.Statement.{statement}
 use Rattle.cells.proofs.number2.Tie as tie
 
@@ -27,7 +27,7 @@ add-result : tie.Need-add-result
 add-result c = search needs
 
 returns : tie.Need-returns
-returns c = let start = c .before .before .before in (omega (arith, two-bytes (start .args .bytes .now) (start .args .i), c .before .byte .ensures, c .byte2 .ensures), omega arith)
+returns c = let start = c .before .before .before in (omega (arith, two-at (start .args .bytes .now) (start .args .i), c .before .byte .ensures, c .byte2 .ensures), omega arith)
 
 pub number2-spec : {M : Type 1} → statement M
 number2-spec = tie.close (tie.spec byte-requires cast-result add-byte byte-requires-2 cast-result-2 mul-result add-result returns)
