@@ -5,30 +5,23 @@ use native.Mathlib.Decide.{decLe}
 use native.Mathlib.Omega.{arith}
 use mathlib.Core.Path.{_≡_, refl, sym, ap, _∙_}
 use mathlib.Core.Logic.{_↔_}
-use mathlib.Core.Bool.{Bool, true, false, and-eq-true-iff}
+use mathlib.Core.Bool.{Bool, true, false}
 use mathlib.Core.List.{List, [], _∷_, _++_, append-assoc, append-nil}
 use lib.ListN.{length, take, drop, length-append, take-append-drop}
 use lib.Seq.{length-take-le, take-at, drop-at}
-use lib.Dec.{leb}
-use borrow.Author.Tests.{leb-true, le-leb}
 use Rattle.object.specs.Paper.{within}
 use Rattle.bench_file.specs.Reading.{Outcome, refused, read, Reader, after, done, rule, field, littleEndian, number, byte, ruledByte, ranged, several}
 use Rattle.object.specs.Each.{Each}
 use Rattle.bench_file.specs.Bytes.{lowFirst, eachBytes, Byte}
 use Rattle.bench_file.proofs.Reading.{after-read, field-whole, field-cut}
 use Rattle.object.proofs.Each.{each-append, each-right, each-take}
+use Rattle.object.proofs.Within.{within-range}
 use Rattle.bench_file.proofs.Each.{eachBytes-bytes, low-length, low-bytes, low-value, value-low, value-bound}
 
--- what came before a value that was read, and what a test of a range says
+-- what came before a value that was read
 pub came : {A B : Type 0} (o : Outcome A) (next : A → Reader B) {b : B} {rest : List ℕ} → after o next ≡ read b rest → (a : A) × (mid : List ℕ) × (o ≡ read a mid) × (next a mid ≡ read b rest)
 came (refused refusal) next e = let z : _≡_ {A = ℕ} 0 1 = cc in absurd (omega arith)
 came (read a mid) next e = (a, mid, refl, e)
-
-pub within-range : (least x most : ℕ) → (within least x most ≡ true) ↔ ((least ≤ x) × (x ≤ most))
-within-range least x most = (
-  λ e. let p = and-eq-true-iff (leb least x) (leb x most) .0 e in (leb-true _ _ (p .0), leb-true _ _ (p .1)),
-  λ h. and-eq-true-iff (leb least x) (leb x most) .1 (le-leb _ _ (h .0), le-leb _ _ (h .1)),
-)
 
 pub record Codec {A : Type 0} (reader : Reader A) (bytes : A → List ℕ) (Good : A → Type 0) : Type 0 where
   pub forth : (a : A) (rest : List ℕ) → Good a → reader (bytes a ++ rest) ≡ read a rest

@@ -14,11 +14,11 @@ use Rattle.object.specs.declared.Kind.{Kind}
 use Rattle.object.specs.Paper.{valueAllowed}
 use Rattle.object.specs.Each.{Each}
 use Rattle.object.proofs.Each.{each-append}
+use Rattle.object.proofs.Within.{within-range}
 use Rattle.bench_file.specs.Reading.{Outcome, refused, read, Reader, after, done, rule, field, number, byte, ruledByte, several, end}
 use Rattle.bench_file.specs.Layout.{Fields, headLength, isMark, startReader, limitsReader, headReader, requestReader, rowReader, scheduleReader, fileReader, accepted, judged, judgeOf}
 use Rattle.bench_file.specs.Bytes.{Byte}
 use Rattle.bench_file.proofs.Reading.{field-whole, field-cut}
-use Rattle.bench_file.proofs.Codec.{within-range}
 use Rattle.bench_file.proofs.RoundTrip.{writes-back}
 
 -- an outcome, with more bytes behind what was left

@@ -22,8 +22,9 @@ use Rattle.bench_file.specs.Layout.{Fields, isMark, startReader, limitsR
 use Rattle.object.specs.Each.{Each}
 use Rattle.bench_file.specs.Bytes.{lowFirst, requestBytes, eachBytes, rowBytes, headBytes, bytesOf, Byte, RequestInRange, RowInRange, CapacityInRange, HeadInRange, InRange}
 use Rattle.object.proofs.Each.{each-append, each-map}
+use Rattle.object.proofs.Within.{within-range}
 use Rattle.bench_file.proofs.Each.{low-bytes}
-use Rattle.bench_file.proofs.Codec.{Codec, came, within-range, left-bytes, restated, done-codec, rule-codec, chain, ruled-codec, ruled-byte-codec, ranged-codec, field-codec, number-codec, several-codec}
+use Rattle.bench_file.proofs.Codec.{Codec, came, left-bytes, restated, done-codec, rule-codec, chain, ruled-codec, ruled-byte-codec, ranged-codec, field-codec, number-codec, several-codec}
 
 -- the mark and the version
 abbrev mark : List ℕ

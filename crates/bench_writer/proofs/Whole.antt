@@ -18,9 +18,10 @@ use Rattle.bench_file.specs.Layout.{Fields, accepted, judgeOf, requestReader}
 use Rattle.object.specs.Each.{Each, every, sumOf}
 use Rattle.bench_file.specs.Bytes.{requestBytes, eachBytes, bytesOf, Byte, RequestInRange, RowInRange, InRange}
 use Rattle.object.proofs.Each.{each-append, each-map, each-every}
+use Rattle.object.proofs.Within.{within-range}
 use Rattle.bench_file.proofs.Each.{eachBytes-append, eachBytes-length}
 use Rattle.bench_file.proofs.Size.{request-length}
-use Rattle.bench_file.proofs.Codec.{within-range, several-codec}
+use Rattle.bench_file.proofs.Codec.{several-codec}
 use Rattle.bench_file.proofs.RoundTrip.{capacity-range, request-codec, accepted-in-range, writes-back}
 use Rattle.bench_writer.specs.Writer.{givenFrom, total, dealt, numberRules, countRules, sizeRules, entryRules, requestsReader, givenReader, givenOf, fitted, writeOf}
 use Rattle.bench_writer.proofs.Rules.{rules-pass}

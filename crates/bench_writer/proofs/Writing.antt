@@ -20,8 +20,9 @@ use Rattle.bench_file.specs.Bytes.{requestBytes, eachBytes, rowBytes, bytesOf, 
 use Rattle.bench_writer.specs.Writer.{Given, total, dealt, interleaved, rawBytes, numberRules, countRules, sizeRules, entryRules, requestsReader, givenReader, givenOf, Writing, fitted, writtenAs, writeOf, WritesAs}
 use Rattle.bench_writer.specs.declared.Written.{Written}
 use Rattle.object.proofs.Each.{each-take, each-drop, each-map, every-each}
+use Rattle.object.proofs.Within.{within-range}
 use Rattle.bench_file.proofs.Each.{eachBytes-length, eachBytes-take, eachBytes-drop}
-use Rattle.bench_file.proofs.Codec.{came, within-range, several-codec}
+use Rattle.bench_file.proofs.Codec.{came, several-codec}
 use Rattle.bench_file.proofs.Size.{request-length}
 use Rattle.bench_file.proofs.Numbered.{Numbered, done-numbered, after-numbered, several-numbered, request-numbered}
 use Rattle.bench_writer.proofs.Rules.{rules-kept, rules-numbered}

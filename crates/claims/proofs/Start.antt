@@ -15,7 +15,7 @@ use Rattle.bench_file.specs.Layout.{Fields}
 use Rattle.object.specs.Each.{Each, every}
 use Rattle.bench_file.specs.Bytes.{RequestInRange, RowInRange, InRange}
 use Rattle.object.proofs.Each.{each-getD}
-use Rattle.bench_file.proofs.Codec.{within-range}
+use Rattle.object.proofs.Within.{within-range}
 use Rattle.bench_file.proofs.RoundTrip.{capacity-range, request-known}
 use Rattle.machine.specs.Sizes.{mostCalls, mostNodes}
 use Rattle.state.specs.declared.Slot.{Slot}

@@ -5,3 +5,4 @@ pub mod Inverse
 pub mod Plainly
 pub mod Refusal
 pub mod Table
+pub mod Within

@@ -7,11 +7,11 @@ use lib.ListN.{length}
 use borrow.Author.Needs.{needs}
 use borrow.Author.Tests.{ne-eqb, leb-true}
 use Rattle.object.specs.declared.Request.{Request}
+use Rattle.object.proofs.Within.{within-range}
 use Rattle.bench_file.specs.Reading.{Outcome, read, rules}
 use Rattle.bench_file.specs.Cursor.{forgotten, numbered}
 use Rattle.bench_writer.specs.Writer.{givenBy, numberRules, countRules, requestsReader, givenReader}
 use Rattle.bench_file.proofs.Reading.{went-on, stopped}
-use Rattle.bench_file.proofs.Codec.{within-range}
 use Rattle.bench_writer.proofs.Rules.{rules-kept}
 use Rattle.bench_writer.proofs.Forgotten.{numbered-refused, numbered-read, numbered-last}
 use Rattle.bench_writer.proofs.judge_given.Statement.{statement}
