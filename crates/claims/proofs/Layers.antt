@@ -2,7 +2,7 @@
 use Prim.Native.Nat.{ℕ, _+_, _-_, _*_, _≤_, _<_}
 use native.Mathlib.Omega.{arith}
 use mathlib.Core.Path.{_≡_, refl, sym, ap, subst, _∙_}
-use mathlib.Core.Bool.{Bool, true, false, cond, and-false, and-eq-true-iff}
+use mathlib.Core.Bool.{Bool, true, false, cond, and-false}
 use mathlib.Core.List.{List, [], _∷_, _++_, map, map-append, append-nil}
 use lib.ListN.{length, getD, length-map}
 use lib.Dec.{ltb, eqb}
@@ -189,7 +189,7 @@ module _ (f : Fields) (fits : InRange f) (s : State) (past : List Entry) (t : Th
 
   -- the node's req is one that the object knows, or empty
   req-known : reqInRange (s .kind) (node s t .req) ≡ true
-  req-known = (simp and-eq-true-iff at (node-fits s t (going .sound .shape) (going .sound .range) below)) .0
+  req-known = node-fits s t (going .sound .shape) (going .sound .range) below .req
 
   does-asked : Does (s .n) (s .h) (viewOf s) (viewOf after) (t .0) l (openRequest (asks f) (viewOf s) (t .0)) (applied s t .answer)
   does-asked =

@@ -1,4 +1,5 @@
 pub mod Kept
+pub mod Nodes
 pub mod RangeFacts
 pub mod Threads
 pub mod Walks

@@ -1,4 +1,4 @@
--- What the range tests of a pointer, a thread, the counts and a state say, as facts. Assumes nothing.
+-- What the range tests of a pointer, a thread, a node, the counts and a state say, as facts. Assumes nothing.
 use Prim.Native.Nat.{ℕ, zero, suc, _+_, _^_, _≤_, _<_}
 use native.Mathlib.Omega.{arith}
 use native.Mathlib.Decide.{decLe}
@@ -8,14 +8,16 @@ use mathlib.Core.Bool.{Bool, true, false, _&&_, _||_, or-true, or-false, and-tru
 use lib.Dec.{leb, ltb, eqb, eqb·suc-zero}
 use lib.ListN.{take}
 use borrow.Author.Tests.{leb-true, ltb-true, le-leb, lt-ltb, lt-leb, eqb-true, eqb-false, eq-eqb}
+use Rattle.object.specs.declared.Kind.{Kind}
 use Rattle.object.specs.Paper.{within}
 use Rattle.object.specs.Apply.{heldInRange}
 use Rattle.object.specs.Each.{every}
 use Rattle.machine.specs.declared.NodeId.{NodeId}
+use Rattle.machine.specs.declared.Node.{Node}
 use Rattle.machine.specs.declared.Thread.{Thread}
 use Rattle.state.specs.declared.Counts.{Counts}
 use Rattle.state.specs.declared.State.{State}
-use Rattle.state.specs.Range.{pointerInRange, lineInRange, threadInRange, nodeInRange, rowsInRange, headInRange, countsInRange, inRange}
+use Rattle.state.specs.Range.{pointerInRange, lineInRange, threadInRange, reqInRange, nodeInRange, rowsInRange, headInRange, countsInRange, inRange}
 
 -- a node, or null
 pub data NodeOrNull (n m : ℕ) : Type 0 where
@@ -97,6 +99,17 @@ pub thread-iff : (n h : ℕ) (th : Thread) → (threadInRange n h th ≡ true) �
 thread-iff n h th = (to, λ f. simp range-facts (search f depth 9))
   where
     to : threadInRange n h th ≡ true → ThreadFits n h th (th .line)
+    to e = let p = simp range-facts at e in search p
+
+-- the facts of a node
+pub record NodeFits (kind : Kind) (n : ℕ) (x : Node) : Type 0 where
+  pub req : reqInRange kind (x .req) ≡ true
+  pub next : NodeOrNull n (x .next .0)
+
+pub node-iff : (kind : Kind) (n : ℕ) (x : Node) → (nodeInRange kind n x ≡ true) ↔ NodeFits kind n x
+node-iff kind n x = (to, λ f. simp range-facts (search f))
+  where
+    to : nodeInRange kind n x ≡ true → NodeFits kind n x
     to e = let p = simp range-facts at e in search p
 
 -- there are at most 16 threads

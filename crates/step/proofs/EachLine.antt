@@ -17,11 +17,11 @@ use Rattle.machine.specs.declared.Thread.{Thread}
 use Rattle.machine.specs.declared.Effect.{Effect}
 use Rattle.machine.specs.declared.Pointer.{Pointer}
 use Rattle.machine.specs.declared.Pointer.the-variants.{Own, Cur, Tmp}
-use Rattle.machine.specs.Lines.{Line, null, isNull, printed, lineOf, rowOf, pointed, L0, L1, L2, L3, L4, L5, L6, L7, L8, L9, L10, L11, L12, L13, L14, L15, L16, L17, L18, L19, L20, L21}
-use Rattle.machine.specs.Effect.{withNext, withReq, goes, withCur, withTmp, withServed, keeps, writes, usesEmpty, takesOut, executed}
-use Rattle.state.specs.Range.{reqInRange, nodeInRange, threadInRange}
+use Rattle.machine.specs.Lines.{Line, isNull, printed, lineOf, rowOf, pointed, L0, L1, L2, L3, L4, L5, L6, L7, L8, L9, L10, L11, L12, L13, L14, L15, L16, L17, L18, L19, L20, L21}
+use Rattle.machine.specs.Effect.{goes, withCur, withTmp, withServed, keeps, writes, usesEmpty, takesOut, executed}
+use Rattle.state.specs.Range.{threadInRange}
 use Rattle.state.proofs.Kept.{first-at}
-use Rattle.state.proofs.RangeFacts.{NodeOrNull, there, nowhere, ThreadFits, not-null, leb-iff, points-iff, thread-iff}
+use Rattle.state.proofs.RangeFacts.{there, nowhere, ThreadFits, NodeFits, not-null, leb-iff, thread-iff}
 use Rattle.step.specs.Numbers.{number, standsAt}
 use Rattle.step.proofs.Numbers.{number-of}
 
@@ -36,7 +36,7 @@ pub record Leaves (n h : ℕ) (kind : Kind) (th : Thread) (x : Node) (k : ℕ) (
   pub thread : (not (usesEmpty x k) && threadInRange n h (e .thread)) ≡ not (takesOut th x h k)
   pub count : e .thread .count ≡ th .count
   pub tail : e .tail .0 ≤ n
-  pub node : nodeInRange kind n (e .node) ≡ true
+  pub node : NodeFits kind n (e .node)
 
 -- the lines at which a pointer of a thread is a node for sure
 abbrev sure : Pointer → ℕ → Bool
@@ -63,19 +63,8 @@ module _ (n h : ℕ) (th : Thread) where
       f
 
 module _ (n h : ℕ) (kind : Kind) (th : Thread) (x : Node) (tail : NodeId) (request : Request) (answer : Answer)
-    (small : n ≤ 16) (tail-fits : tail .0 ≤ n) (x-fits : nodeInRange kind n x ≡ true)
+    (small : n ≤ 16) (tail-fits : tail .0 ≤ n) (x-fits : NodeFits kind n x)
     (now : ThreadFits n h th (th .line)) (known : 0 < th .begun → knows kind request ≡ true) where
-  req-fits : reqInRange kind (x .req) ≡ true
-  req-fits = (simp and-eq-true-iff at x-fits) .0
-
-  next-fits : NodeOrNull n (x .next .0)
-  next-fits = points-iff n true (x .next) .0 ((simp and-eq-true-iff at x-fits) .1)
-
-  -- a node in range, from its parts
-  node-fits : (after : Node) → reqInRange kind (after .req) ≡ true → NodeOrNull n (after .next .0)
-      → nodeInRange kind n after ≡ true
-  node-fits after r p = simp and-eq-true-iff (r, points-iff n true (after .next) .1 p)
-
   -- a thread that fits goes on, unless the line uses an empty req or ret
   goes-on : (k : ℕ) (after : Thread) → takesOut th x h k ≡ usesEmpty x k → ThreadFits n h after (after .line)
       → (not (usesEmpty x k) && threadInRange n h after) ≡ not (takesOut th x h k)
@@ -86,7 +75,7 @@ module _ (n h : ℕ) (kind : Kind) (th : Thread) (x : Node) (tail : NodeId) (req
       → ThreadFits n h after (after .line) → Leaves n h kind th x k (keeps th x tail h request answer after)
   kept k after c e f = record { thread = goes-on k after e f; count = c; tail = tail-fits; node = x-fits }
 
-  written : (k line : ℕ) (after : Node) → nodeInRange kind n after ≡ true → takesOut th x h k ≡ usesEmpty x k
+  written : (k line : ℕ) (after : Node) → NodeFits kind n after → takesOut th x h k ≡ usesEmpty x k
       → ThreadFits n h (goes th line) line → Leaves n h kind th x k (writes th x tail h request answer after line)
   written k line after p e f = record { thread = goes-on k (goes th line) e f; count = refl; tail = tail-fits; node = p }
 
@@ -116,12 +105,12 @@ module _ (n h : ℕ) (kind : Kind) (th : Thread) (x : Node) (tail : NodeId) (req
       → Leaves n h kind th x (number l) (executed th x tail h request answer l)
   line-leaves L0 f g = kept _ _ refl refl now
   line-leaves L1 f g = let room = g refl in kept _ _ refl (simp (lt-leb (th .count) (th .begun))) (search (arith, f, nowhere))
-  line-leaves L2 f g = written _ _ _ (node-fits (withNext x null) req-fits (nowhere refl)) refl (search (arith, f))
-  line-leaves L3 f g = written _ _ _ x-fits refl (search (arith, f))
-  line-leaves L4 f g = written _ _ _ x-fits refl (search (arith, f))
+  line-leaves L2 f g = written _ _ _ (search (x-fits, nowhere)) refl (search (arith, f))
+  line-leaves L3 f g = written _ _ _ (search x-fits) refl (search (arith, f))
+  line-leaves L4 f g = written _ _ _ (search x-fits) refl (search (arith, f))
   line-leaves L5 f g = record { thread = goes-on 5 (withCur th 6 tail) refl (search (arith, f)); count = refl; tail = f .own; node = x-fits }
-  line-leaves L6 f g = written _ _ _ (node-fits (withReq x request) (known (f .begun)) next-fits) refl (search (arith, f))
-  line-leaves L7 f g = written _ _ _ (node-fits (withNext x (th .own)) req-fits (there (f .own))) refl (search (arith, f))
+  line-leaves L6 f g = written _ _ _ (search (x-fits, known (f .begun))) refl (search (arith, f))
+  line-leaves L7 f g = written _ _ _ (search (x-fits, there (f .own))) refl (search (arith, f))
   line-leaves L8 f g = kept _ _ refl refl (search (arith, f))
   line-leaves L9 f g = kept _ _ refl refl (either-line (x .wait) 9 10 (search (arith, f)) (search (arith, f)))
   line-leaves L10 f g = kept _ _ refl refl (either-line (x .completed) 11 12 (search (arith, f)) (search (arith, f)))
@@ -132,15 +121,15 @@ module _ (n h : ℕ) (kind : Kind) (th : Thread) (x : Node) (tail : NodeId) (req
       barred 14 (withServed th 15 (th .served + 1)) (leb h (th .served)) refl refl (simp or-false)
       (λ e. let below = leb-false h (th .served) e in search (arith, f))
       (λ after. lt-leb h (th .served) (omega (arith, after .served)))
-  line-leaves L15 f g = kept _ _ refl refl (search (arith, f, next-fits))
-  line-leaves L16 f g = written _ _ _ x-fits refl (search (arith, f))
-  line-leaves L17 f g = written _ _ _ x-fits refl (search (arith, f))
-  line-leaves L18 f g = written _ _ _ x-fits refl (search (arith, f))
+  line-leaves L15 f g = kept _ _ refl refl (search (arith, f, x-fits))
+  line-leaves L16 f g = written _ _ _ (search x-fits) refl (search (arith, f))
+  line-leaves L17 f g = written _ _ _ (search x-fits) refl (search (arith, f))
+  line-leaves L18 f g = written _ _ _ (search x-fits) refl (search (arith, f))
   line-leaves L19 f g =
       barred 19 (withTmp th 13 (th .tmpnext)) (isNull (th .tmpnext)) refl refl (simp or-false)
       (λ e. let below = not-null (f .tmpnext) e in search (arith, f))
       (λ after. ne-eqb (th .tmpnext .0) 255 (λ q. omega (arith, after .tmp)))
-  line-leaves L20 f g = written _ _ _ x-fits refl (search (arith, f, there))
+  line-leaves L20 f g = written _ _ _ (search x-fits) refl (search (arith, f, there))
   line-leaves L21 f g = kept _ _ refl refl (search (arith, f, there))
 
   -- the same by the line's number

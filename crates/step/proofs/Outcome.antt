@@ -26,7 +26,8 @@ use Rattle.state.specs.declared.State.{State}
 use Rattle.state.specs.Range.{headInRange, rowsInRange, inRange, threadInRange, nodeInRange, countsInRange}
 use Rattle.state.specs.Shape.{Shaped}
 use Rattle.state.proofs.Kept.{first-set, first-at, rows-stay, known-at}
-use Rattle.state.proofs.RangeFacts.{ThreadFits, thread-iff, points-iff, StateFits, state-fits}
+use Rattle.state.proofs.Nodes.{node-at}
+use Rattle.state.proofs.RangeFacts.{ThreadFits, thread-iff, NodeFits, node-iff, points-iff, StateFits, state-fits}
 use Rattle.step.specs.Entry.{zeroThread, zeroNode, zeroSlot, servedBy, appliedAt, named, line, target, node, event, request, applied, effect, countsAfter, entered}
 use Rattle.step.specs.Step.{goesThrough}
 use Rattle.step.specs.Numbers.{standsAt}
@@ -81,10 +82,8 @@ module _ (s : State) (t : ThreadId) (shaped : Shaped s) (range : inRange s ≡ t
       known-at (s .kind) (s .requests) (s .n) (s .threads) (t .0) below (facts .rows) room zeroThread (named s t .begun - 1) zeroSlot
       (omega (arith, thread-fits .counted)) (omega (arith, facts .small, thread-fits .few, shaped .requests))
 
-  pub node-fits : nodeInRange (s .kind) (s .n) (node s t) ≡ true
-  node-fits =
-      first-at (nodeInRange (s .kind) (s .n)) (s .n + 1) (s .nodes) (target s t .0) (facts .nodes)
-      (omega (arith, target-in-range)) (omega (arith, facts .small, shaped .nodes)) zeroNode
+  pub node-fits : NodeFits (s .kind) (s .n) (node s t)
+  node-fits = node-at s shaped (target s t .0) target-in-range zeroNode range
 
   pub leaves : Leaves (s .n) (s .h) (s .kind) (named s t) (node s t) (line s t) (effect s t)
   leaves =
@@ -112,7 +111,7 @@ module _ (s : State) (t : ThreadId) (shaped : Shaped s) (range : inRange s ≡ t
   nodes-stay =
       first-set (nodeInRange (s .kind) (s .n)) (s .n + 1) (s .nodes) (target s t .0) (facts .nodes)
       (omega (arith, target-in-range)) (omega (arith, facts .small, shaped .nodes)) (effect s t .node)
-      ∙ leaves .node
+      ∙ node-iff (s .kind) (s .n) (effect s t .node) .1 (leaves .node)
 
   rows-hold : rowsInRange (s .kind) (s .requests) 0 (take (s .n) (entered s t .threads)) ≡ true
   rows-hold =

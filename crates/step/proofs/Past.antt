@@ -4,7 +4,7 @@ use Prim.Native.Nat.{ℕ, _+_, _-_, _*_, _/_, _^_, _<_}
 use native.Mathlib.Omega.{arith}
 use native.Mathlib.Nat.{zero-add}
 use mathlib.Core.Path.{_≡_, refl, sym, ap, ap₂, _∙_}
-use mathlib.Core.Bool.{Bool, true, false, cond, not, _&&_, and-eq-true-iff}
+use mathlib.Core.Bool.{Bool, true, false, cond, not, _&&_}
 use mathlib.Core.List.{List, [], _∷_}
 use lib.ListN.{getD, take, drop, set, List·getD-map}
 use lib.Seq.{getD-drop, drop-set-lt, map-set-same}
@@ -152,7 +152,7 @@ module _ (s s′ : State) (agree : Agree s s′) where
     same-applied : AnswerSame (applied s t) (applied s′ t)
     same-applied =
         rw (← same-named, ← agree .kind, ← agree .capacity, ← same-node) (same-served (s .kind) (s .capacity) (s .object) (s′ .object) (sameEvent (event s t) Applies) (node s t .req)
-        (shaped .items) (shaped′ .items) (rw (state-fits s range .held) tt) ((simp and-eq-true-iff at (node-fits s t shaped range below)) .0) same-held)
+        (shaped .items) (shaped′ .items) (rw (state-fits s range .held) tt) (node-fits s t shaped range below .req) same-held)
 
     same-effect : effect s t ≡ effect s′ t
     same-effect =
