@@ -27,7 +27,7 @@ pub record PastKept (s s′ : State) : Type 0 where
   -- the copies of threads from n on, and those of nodes past n
   pub copies : copiesFrom (s .n) (s′ .copies) ≡ copiesFrom (s .n) (s .copies)
   pub locations : drop (placesTo (s .n)) (s′ .copies) ≡ drop (placesTo (s .n)) (s .copies)
-  -- the items past those held after the step: a put writes the first place past those held before it, which it then hasCopyOf
+  -- the items past those held after the step: a put writes the first place past those held before it, which it then holds
   pub items : drop (s′ .object .held) (s′ .object .items) ≡ drop (s′ .object .held) (s .object .items)
 
 -- each thread below n has a valid copy in both or in neither, of Tail and of each field of nodes 0 to n
