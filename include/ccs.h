@@ -25,7 +25,7 @@
  *   byte 1         request within the thread, from 0
  *   byte 2         0 done, 1 value, 2 empty, 3 full, 255 none yet
  *   byte 3         serving thread, 255 before serving
- *   bytes 4 to 7   value, 0 unless byte 2 is 1
+ *   bytes 4 to 7   of done, the count of items held after the put, 1 to the capacity; of value, the value; else 0
  *   bytes 8 to 11  the call's remote references so far
  *   byte 12        1 once returned, else 0
  *   bytes 13, 14   turn that served it, 65,535 before serving
@@ -130,7 +130,7 @@ uint8_t ccs_list(const uint8_t *file, size_t file_length, uint8_t *out, size_t o
  *   th       2     thread
  *   rq       2     request within the thread
  *   ans      5     done, value, empty, full, or none while not served
- *   value   10     value, or a hyphen where the answer has none
+ *   value   10     of done, the count of items held after the put; of value, the value; else a hyphen
  *   by       2     serving thread, or a hyphen before serving
  *   turn     5     turn that served it, or a hyphen before serving
  *   remote  10     the call's remote references so far

@@ -4,8 +4,8 @@ use crate::{Counts, RECORD_LENGTH};
 /// The object's answer to a request.
 #[derive(Clone, Copy, Debug, PartialEq, Eq)]
 pub enum Answer {
-    /// A put is done.
-    Done,
+    /// A put is done: the count of items held after it, 1 to the capacity.
+    Done(u32),
     /// A take or an add has its value.
     Value(u32),
     /// A take found nothing.
@@ -41,6 +41,9 @@ pub struct Record {
     /// The number of the entry with which it returned, its line 11 or 21; none while it is open.
     pub returned: Option<u32>,
 }
+
+/// No capacity is above this, and no count of items.
+const CAPACITY: u32 = 64;
 
 /// An entry's number is below this: no schedule is longer.
 const ENTRIES: u32 = 32_768;
@@ -96,7 +99,7 @@ impl Record {
 /// The answer of a mark and a value; none if they contradict each other.
 fn answer(mark: u8, value: u32) -> Option<Answer> {
     match (mark, value) {
-        (0, 0) => Some(Answer::Done),
+        (0, held @ 1..=CAPACITY) => Some(Answer::Done(held)),
         (1, value) => Some(Answer::Value(value)),
         (2, 0) => Some(Answer::Empty),
         (3, 0) => Some(Answer::Full),
@@ -112,14 +115,14 @@ fn number(bytes: &[u8; RECORD_LENGTH], at: usize) -> u32 {
 /// The records that [`run`](crate::run) left in a buffer, in Swap order. A call that returned before another began comes before it.
 ///
 /// ```
-/// // a counter, two threads that add 5 and 7; thread 0 runs alone
-/// let mut file = vec![0x43, 0x43, 0x53, 1, 0, 2, 2, 1, 0, 1, 2, 5, 0, 0, 0, 1, 2, 7, 0, 0, 0, 21, 0];
+/// // a queue of capacity 4, two threads that put 5 and 7; thread 0 runs alone
+/// let mut file = vec![0x43, 0x43, 0x53, 1, 0, 0, 2, 1, 4, 1, 0, 5, 0, 0, 0, 1, 0, 7, 0, 0, 0, 21, 0];
 /// file.resize(file.len() + 21, 0);
 /// let mut out = [0; 2 * ccs::RECORD_LENGTH];
 /// let counts = ccs::run(&file, &mut out).unwrap();
 /// let records: Vec<ccs::Record> = ccs::records(&out, &counts).collect();
 /// assert_eq!(records.len(), 1);
-/// assert_eq!(records[0].serving.unwrap().answer, ccs::Answer::Value(0));
+/// assert_eq!(records[0].serving.unwrap().answer, ccs::Answer::Done(1));
 /// ```
 pub fn records<'a>(out: &'a [u8], counts: &Counts) -> impl Iterator<Item = Record> + 'a {
     out.chunks_exact(RECORD_LENGTH)
@@ -189,7 +192,7 @@ mod tests {
                 assert_eq!(with(record, place, &[16]), None);
             }
         }
-        for mark in [0, 2, 3, 4, 255] {
+        for mark in [2, 3, 4, 255] {
             assert_eq!(with(RETURNED, 2, &[mark]), None);
         }
         for server in [16, 255] {
@@ -198,6 +201,27 @@ mod tests {
         assert_eq!(with(RETURNED, 13, &[255, 255]), None);
         for (place, bytes) in [(2, [1, 255]), (2, [255, 0]), (4, [1, 0]), (13, [0, 0])] {
             assert_eq!(with(WAITING, place, &bytes), None);
+        }
+    }
+
+    /// Marks and their numbers: done has a count of items, a value is any number, empty and full have 0.
+    #[test]
+    fn answers_are_read() {
+        let answer_in = |mark, number: u32| {
+            let [a, b, c, d] = number.to_le_bytes();
+            let record = with(RETURNED, 2, &[mark, 0, a, b, c, d])?;
+            Some(record.serving.expect("a serving").answer)
+        };
+        for held in 1..=CAPACITY {
+            assert_eq!(answer_in(0, held), Some(Answer::Done(held)));
+        }
+        for value in [0, 1, 64, 65, u32::MAX] {
+            assert_eq!(answer_in(1, value), Some(Answer::Value(value)));
+        }
+        assert_eq!(answer_in(2, 0), Some(Answer::Empty));
+        assert_eq!(answer_in(3, 0), Some(Answer::Full));
+        for (mark, number) in [(0, 0), (0, 65), (0, 257), (2, 1), (3, 1), (3, 64)] {
+            assert_eq!(answer_in(mark, number), None);
         }
     }
 

@@ -5,6 +5,7 @@ mod plain;
 use ccs::{Answer, Record, Refusal, ENOUGH_FOR_LISTING, ENOUGH_FOR_PAGES, ENOUGH_FOR_RECORDS};
 use ccs::{PAGE_RECORDS, RECORD_LENGTH, ROW_LENGTH};
 use inputs::{damaged, run_by_library, run_plainly, Given, Random};
+use std::collections::BTreeSet;
 use std::fs;
 use std::path::{Path, PathBuf};
 
@@ -151,13 +152,13 @@ fn read_and_laid(bytes: &[u8]) -> Vec<u8> {
         .collect()
 }
 
-/// The bytes of a record, by document 01 and request No. 1 of document 02.
+/// The bytes of a record, by document 01 and requests No. 1 and 3 of document 02.
 fn laid(record: &Record) -> [u8; RECORD_LENGTH] {
     let (mark, server, value, turn) = match record.serving {
         None => (255, 255, 0, 65_535),
         Some(serving) => {
             let (mark, value) = match serving.answer {
-                Answer::Done => (0, 0),
+                Answer::Done(held) => (0, held),
                 Answer::Value(value) => (1, value),
                 Answer::Empty => (2, 0),
                 Answer::Full => (3, 0),
@@ -347,12 +348,50 @@ fn pages_as_stated() {
         lent.rows(&queue.bytes()),
         [
             HEAD,
-            "  0  0  0 done  -           0     0          9 returned\n",
+            "  0  0  0 done           1  0     0          9 returned\n",
             "  1  0  1 full  -           0     1          2 returned\n",
             "  2  0  2 value          3  0     2          0 returned\n",
             "  3  0  3 empty -           0     3          0 returned\n",
         ]
     );
+}
+
+/// A put that is done tells how many items are held after it, of a stack and of a queue; full and empty tell none.
+#[test]
+fn items_held_are_counted() {
+    let put = |value| [0, value, 0, 0, 0];
+    let take = [1, 0, 0, 0, 0];
+    for (object, [first, second, third]) in [(0, [9, 8, 6]), (1, [8, 6, 9])] {
+        let file = Given {
+            object,
+            n: 1,
+            h: 1,
+            capacity: 2,
+            counts: vec![8],
+            requests: [put(9), put(8), put(7), take, put(6), take, take, take].concat(),
+            schedule: vec![0; 8 * 21],
+        }
+        .bytes();
+        Lent::new().agree(&file).expect("a file in range");
+        let mut out = [0; 8 * RECORD_LENGTH];
+        let counts = ccs::run(&file, &mut out).expect("enough bytes");
+        let answers: Vec<Answer> = ccs::records(&out, &counts)
+            .map(|record| record.serving.expect("a serving").answer)
+            .collect();
+        assert_eq!(
+            answers,
+            [
+                Answer::Done(1),
+                Answer::Done(2),
+                Answer::Full,
+                Answer::Value(first),
+                Answer::Done(2),
+                Answer::Value(second),
+                Answer::Value(third),
+                Answer::Empty,
+            ]
+        );
+    }
 }
 
 #[test]
@@ -411,8 +450,11 @@ fn full_objects() {
             lent.agree(&file).expect("a file in range");
             lent.runs(&file, ENOUGH_FOR_RECORDS).expect("enough bytes");
             let records = &lent.library[AROUND..AROUND + ENOUGH_FOR_RECORDS];
-            let full = records.chunks_exact(RECORD_LENGTH).filter(|r| r[2] == 3);
+            let records = records.chunks_exact(RECORD_LENGTH);
+            let full = records.clone().filter(|r| r[2] == 3);
             assert!(full.count() > 20, "the object fills up");
+            let held: BTreeSet<u8> = records.filter(|r| r[2] == 0).map(|r| r[4]).collect();
+            assert!(held.into_iter().eq(1..=capacity), "each count is told");
         }
     }
 }

@@ -137,6 +137,21 @@ static void accepted(void)
     same("spinning return", number(out + CCS_RECORD_LENGTH + 20), 4294967295);
 }
 
+/* A stack of capacity 2, one thread that puts 9, 8 and 7: two counts of items held, and a full without one. */
+static void counted(void)
+{
+    static const uint8_t stack[9 + 16 + 2 + 63] = {'C', 'C', 'S', 1, 0, 1, 1, 1, 2, 3, 0, 9, 0, 0, 0, 0, 8, 0, 0, 0, 0, 7, 0, 0, 0, 63};
+    static const uint8_t answers[3][2] = {{0, 1}, {0, 2}, {3, 0}};
+    uint8_t out[3 * CCS_RECORD_LENGTH];
+    uint32_t counts[CCS_RUN_COUNTS];
+    same("puts", ccs_run(stack, sizeof stack, out, sizeof out, counts), CCS_ACCEPTED);
+    same("puts", counts[CCS_RUN_RECORDS], 3);
+    for (size_t i = 0; i < 3; i++) {
+        same("answer of a put", out[CCS_RECORD_LENGTH * i + 2], answers[i][0]);
+        same("items held after a put", number(out + CCS_RECORD_LENGTH * i + 4), answers[i][1]);
+    }
+}
+
 /* The most requests that a file has: their records fit, and would not in a byte less. */
 static void most_records(void)
 {
@@ -229,6 +244,7 @@ int main(void)
     lay_file();
     refused_files();
     accepted();
+    counted();
     most_records();
     written();
     listed();

@@ -178,6 +178,18 @@ fn more_threads_or_requests() -> Vec<Given> {
     ]
 }
 
+/// Room for two items: a second put counts 2, and a take sees whether it is a queue or a stack.
+fn two_items() -> Vec<Given> {
+    let two = |given| Given {
+        capacity: 2,
+        ..given
+    };
+    vec![
+        two(small(0, 2, &[1, 1, 1], &[PUT_7, TAKE, PUT_8])),
+        two(small(1, 1, &[2, 1], &[PUT_7, TAKE, PUT_8])),
+    ]
+}
+
 #[test]
 fn two_threads_one_request_each() {
     for given in two_threads() {
@@ -196,7 +208,7 @@ fn three_threads_one_request_each() {
 
 #[test]
 fn every_beginning_completed() {
-    for given in [two_threads(), more_threads_or_requests()].concat() {
+    for given in [two_threads(), more_threads_or_requests(), two_items()].concat() {
         let begin = if given.n == 2 { TWO_BEGIN } else { THREE_BEGIN };
         let beginnings = usize::from(given.n).pow(begin as u32);
         let mut walk = Walk::new(given);

@@ -56,7 +56,7 @@ capacity-range Queue c = (λ g. g, λ h. h)
 capacity-range Stack c = (λ g. g, λ h. h)
 capacity-range Counter c = (λ g. omega arith, λ h. omega arith)
 
-capacity-byte : (k : Kind) (c : ℕ) → CapacityInRange k c → Byte c
+pub capacity-byte : (k : Kind) (c : ℕ) → CapacityInRange k c → Byte c
 capacity-byte Queue c h = omega arith
 capacity-byte Stack c h = omega arith
 capacity-byte Counter c h = omega arith

@@ -20,7 +20,7 @@ use Rattle.cells.specs.Shown.{shownRow}
 -- mark and value stand for the response that they were written for
 ret-back : (ret : RetVal) → retOf (retMark ret) (retValue ret) ≡ ret
 ret-back RetVal.NoAnswer = refl
-ret-back (RetVal.Answered Answer.Done) = refl
+ret-back (RetVal.Answered (Answer.Done count)) = refl
 ret-back (RetVal.Answered (Answer.Value v)) = refl
 ret-back (RetVal.Answered Answer.Empty) = refl
 ret-back (RetVal.Answered Answer.Full) = refl

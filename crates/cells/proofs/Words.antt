@@ -42,7 +42,7 @@ in-table Open = record { number = omega arith; long = omega arith; there = refl 
 -- a mark word has at most five bytes
 pub mark-length : (ret : RetVal) → length (wordText (markWord ret)) ≤ 5
 mark-length RetVal.NoAnswer = omega arith
-mark-length (RetVal.Answered Answer.Done) = omega arith
+mark-length (RetVal.Answered (Answer.Done count)) = omega arith
 mark-length (RetVal.Answered (Answer.Value v)) = omega arith
 mark-length (RetVal.Answered Answer.Empty) = omega arith
 mark-length (RetVal.Answered Answer.Full) = omega arith

@@ -1,4 +1,4 @@
--- The cells of a record: which number or word stands in each place. Document 01, 'The record of a call', and request No. 1.
+-- The cells of a record: which number or word stands in each place. Document 01, 'The record of a call', and requests No. 1 and No. 3.
 use Prim.Native.Nat.{ℕ}
 use mathlib.Core.Bool.{Bool, cond}
 use mathlib.Core.List.{List, [], _∷_, _++_}
@@ -51,11 +51,11 @@ cellText (Says word) = wordText word
 -- the response that a mark and a value stand for; 255, like every number that is no answer's mark, stands for none
 abbrev pub retOf : ℕ → ℕ → RetVal
 retOf mark value =
-    getD (RetVal.Answered Answer.Done ∷ RetVal.Answered (Answer.Value value) ∷ RetVal.Answered Answer.Empty ∷ RetVal.Answered Answer.Full ∷ []) mark RetVal.NoAnswer
+    getD (RetVal.Answered (Answer.Done value) ∷ RetVal.Answered (Answer.Value value) ∷ RetVal.Answered Answer.Empty ∷ RetVal.Answered Answer.Full ∷ []) mark RetVal.NoAnswer
 
 -- mark word: done, value, empty, full, or none before serving
 abbrev pub answerWord : Answer → Word
-answerWord Answer.Done = Done
+answerWord (Answer.Done count) = Done
 answerWord (Answer.Value v) = Value
 answerWord Answer.Empty = Empty
 answerWord Answer.Full = Full
@@ -64,9 +64,9 @@ abbrev pub markWord : RetVal → Word
 markWord RetVal.NoAnswer = NoAnswer
 markWord (RetVal.Answered answer) = answerWord answer
 
--- a response that is no value prints a hyphen
+-- a done put prints its count and a value itself; any other response prints a hyphen
 abbrev pub answerCell : Answer → Cell
-answerCell Answer.Done = Says Hyphen
+answerCell (Answer.Done count) = Number count
 answerCell (Answer.Value v) = Number v
 answerCell Answer.Empty = Says Hyphen
 answerCell Answer.Full = Says Hyphen

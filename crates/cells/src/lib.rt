@@ -138,7 +138,7 @@ fn ret_of(mark: u8, value: u32) -> RetVal
     ensures { λ r. ⌜ r ≡ retOf mark value ⌝ }
 {
     match mark {
-        0 => RetVal::Answered(Answer::Done),
+        0 => RetVal::Answered(Answer::Done(value)),
         1 => RetVal::Answered(Answer::Value(value)),
         2 => RetVal::Answered(Answer::Empty),
         3 => RetVal::Answered(Answer::Full),
@@ -150,7 +150,7 @@ fn answer_word(answer: Answer) -> Word
     ensures { λ r. ⌜ r ≡ answerWord answer ⌝ }
 {
     match answer {
-        Answer::Done => Word::Done,
+        Answer::Done(_) => Word::Done,
         Answer::Value(_) => Word::Value,
         Answer::Empty => Word::Empty,
         Answer::Full => Word::Full,
@@ -166,13 +166,16 @@ fn mark_word(ret: RetVal) -> Word
     }
 }
 
-// The value of a response, a hyphen where it is no value.
+// The count of a done put or the value of a response, a hyphen where it is neither.
 fn value_cell(ret: RetVal) -> Cell
     ensures { λ r. ⌜ r ≡ valueCell ret ⌝ }
 {
     let RetVal::Answered(answer) = ret else {
         return Cell::Says(Word::Hyphen);
     };
+    if let Answer::Done(count) = answer {
+        return Cell::Number(count);
+    }
     let Answer::Value(v) = answer else {
         return Cell::Says(Word::Hyphen);
     };

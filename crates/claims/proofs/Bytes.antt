@@ -19,7 +19,7 @@ use Rattle.history.specs.Terms.{Call, noTurn, servings, costOf, returned, noEnt
 
 -- an answer's mark is not that of none
 pub mark-below : (a : Answer) → answerMark a < 255
-mark-below Done = omega arith
+mark-below (Done count) = omega arith
 mark-below (Value v) = omega arith
 mark-below Empty = omega arith
 mark-below Full = omega arith
@@ -44,6 +44,10 @@ module _ (history : List Entry) (c : Call) where
 
   abbrev number : ℕ → ℕ → ℕ
   number from width = numberAt (recordOf history c) from width
+
+  pub mark-byte : number 2 1 ≡ retMark (w .ret)
+  unfolding lowFirst littleEndian
+  mark-byte = omega arith
 
   pub server-byte : number 3 1 ≡ w .server .0
   unfolding lowFirst littleEndian

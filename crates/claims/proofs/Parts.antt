@@ -17,10 +17,11 @@ use Rattle.object.specs.Plain.{fresh}
 use Rattle.object.specs.Each.{Each}
 use Rattle.object.proofs.Each.{each-there, each-getD, each-take, each-map, each-getD-or, each-all, each-mapped, each-unmapped}
 use Rattle.object.proofs.Choice.{by-equal, by-order, by-test}
-use Rattle.object.proofs.Fitting.{answers-fit}
+use Rattle.object.proofs.Counting.{count-by-mark}
+use Rattle.object.proofs.Fitting.{AnswerFits, answers-fit}
 use Rattle.bench_file.specs.Layout.{Fields}
 use Rattle.bench_file.specs.Bytes.{lowFirst, Byte, InRange}
-use Rattle.bench_file.proofs.RoundTrip.{request-fits}
+use Rattle.bench_file.proofs.RoundTrip.{capacity-byte, request-fits}
 use Rattle.machine.specs.declared.Announced.the-variants.{NoRequest, Asked}
 use Rattle.machine.specs.declared.RetVal.{RetVal}
 use Rattle.machine.specs.declared.RetVal.the-variants.{NoAnswer, Answered}
@@ -42,7 +43,7 @@ use Rattle.history.proofs.Times.{number-below, number-none, number-most, by-num
 use Rattle.history.proofs.Turns.{one-combiner}
 use Rattle.claims.specs.Claims.{RecordSized, ReturnedCall, Timed, Earlier, Claimed, HasAnswer, plainAnswers, askedOf, askedBy}
 use Rattle.claims.proofs.InTurns.{in-turns}
-use Rattle.claims.proofs.Bytes.{mark-below, record-sized, server-byte, state-byte, turn-bytes, began-bytes, returned-bytes}
+use Rattle.claims.proofs.Bytes.{mark-below, record-sized, mark-byte, server-byte, value-bytes, state-byte, turn-bytes, began-bytes, returned-bytes}
 use Rattle.claims.proofs.Layers.{Layers, Bounded, jobsOf}
 use Rattle.claims.proofs.Meets.{one-turn}
 use Rattle.claims.proofs.Run.{Going}
@@ -150,21 +151,30 @@ module _ (f : Fields) (fits : InRange f) (s : State) (history : List Entry) (goi
       (shown-each (λ (w : Shown). Byte (w .server .0)) (omega arith) (swapAt history i) (servings history)
       (each-map (λ (w : Serving) h. omega (arith, h)) (servings history) (now .servers)))))
 
-  -- the value of every answer fits 32 bits, since those of the file's requests do
+  -- the value of every answer fits 32 bits, since those of the file's requests do, and a done count is in range
   asked-fits : (c : Call) → requestValue (askedBy f c) < 2 ^ 32
   asked-fits c =
       let Fits : Request → Type 0 = λ r. requestValue r < 2 ^ 32 in
       let rows : Each (Each Fits) (f .rows) = each-map (λ (l : List Request) h. each-map (request-fits (f .head .object)) l (h .requests)) (f .rows) (fits .rows) in
       each-getD-or Fits (askedOf f (c .thread)) (c .request) (Put 0) (each-getD-or (Each Fits) (f .rows) (c .thread .0) [] rows tt) (omega arith)
 
+  answers-given : Each (AnswerFits (f .head .capacity)) (plainAnswers f history)
+  answers-given =
+      let small = capacity-byte (f .head .object) (f .head .capacity) (fits .head .capacity) in
+      answers-fit (f .head .object) (f .head .capacity) (omega arith) (jobsOf f history)
+      (each-mapped (λ (r : Request). requestValue r < 2 ^ 32) (askedBy f) (swapOrder history) (each-all asked-fits (swapOrder history)))
+
+  -- what holds of no answer and of such an answer holds of the response that a call shows
+  shown-fits : (P : RetVal → Type 0) → P NoAnswer → ((a : Answer) → AnswerFits (f .head .capacity) a → P (Answered a))
+      → (c : Call) → P (shownOf c (servings history) .ret)
+  shown-fits P unserved holds c =
+      let plainly = each-take _ (now .ledger .a) (plainAnswers f history) (each-map holds (plainAnswers f history) answers-given) in
+      let given : Each P (map Answered (now .answers)) = rw plain (each-mapped P Answered (take (now .ledger .a) (plainAnswers f history)) plainly) in
+      let served : Each P (map (λ (w : Serving). w .answer) (servings history)) = rw (now .answered) given in
+      shown-each (λ (w : Shown). P (w .ret)) unserved c (servings history) (each-unmapped P (λ (w : Serving). w .answer) (servings history) served)
+
   value-fits : (c : Call) → retValue (shownOf c (servings history) .ret) < 2 ^ 32
-  value-fits c =
-      let Fits : RetVal → Type 0 = λ r. retValue r < 2 ^ 32 in
-      let asked = each-mapped (λ (r : Request). requestValue r < 2 ^ 32) (askedBy f) (swapOrder history) (each-all asked-fits (swapOrder history)) in
-      let plainly = each-take _ (now .ledger .a) (plainAnswers f history) (answers-fit (f .head .object) (f .head .capacity) (jobsOf f history) asked) in
-      let given : Each Fits (map Answered (now .answers)) = rw plain (each-mapped Fits Answered (take (now .ledger .a) (plainAnswers f history)) plainly) in
-      let served : Each Fits (map (λ (w : Serving). w .answer) (servings history)) = rw (now .answered) given in
-      shown-each (λ (w : Shown). Fits (w .ret)) (omega arith) c (servings history) (each-unmapped Fits (λ (w : Serving). w .answer) (servings history) served)
+  value-fits = shown-fits (λ r. retValue r < 2 ^ 32) (omega arith) (λ a h. h .value)
 
   -- the calls in time
   timed : (i : ℕ) → i < howMany Swaps history → Timed history (swapAt history i)
@@ -186,6 +196,14 @@ module _ (f : Fields) (fits : InRange f) (s : State) (history : List Entry) (goi
       → numberAt (getD (recordsOf history) i []) from width ≡ number (swapAt history i)
   in-record from width number of-call i b =
       ap (λ (bytes : List ℕ). numberAt bytes from width) (record-at history i noCall (swap-there i b)) ∙ of-call (swapAt history i)
+
+  done-counts : (i : ℕ) → i < howMany Swaps history → numberAt (getD (recordsOf history) i []) 2 1 ≡ 0
+      → (1 ≤ numberAt (getD (recordsOf history) i []) 4 4) × (numberAt (getD (recordsOf history) i []) 4 4 ≤ f .head .capacity)
+  done-counts i b mark =
+      rw (in-record 4 4 (λ c. retValue (shownOf c (servings history) .ret)) (λ c. value-bytes history c (value-fits c)) i b)
+      (shown-fits (λ r. retMark r ≡ 0 → (1 ≤ retValue r) × (retValue r ≤ f .head .capacity)) (λ e. absurd (omega arith))
+      (λ a h. count-by-mark (f .head .capacity) a (h .in-range)) (swapAt history i)
+      (sym (in-record 2 1 (λ c. retMark (shownOf c (servings history) .ret)) (mark-byte history) i b) ∙ mark))
 
   began-at : (i : ℕ) → i < howMany Swaps history → numberAt (getD (recordsOf history) i []) 16 4 ≡ beganAt (swapAt history i) history
   began-at = in-record 16 4 (λ c. beganAt c history) (λ c. began-bytes history c (number-fits c CallBegins))
@@ -247,6 +265,7 @@ module _ (f : Fields) (fits : InRange f) (s : State) (history : List Entry) (goi
     served-in = served-in;
     unserved = unserved;
     value-fits = value-fits;
+    done-counts = done-counts;
     one-combiner = λ t u p q. ap threadId (one-combiner (one-turn (now .control)) (now .turns) (t .0) (u .0) p q);
     combiner-applies = now .by-combiner;
     at-most-h = λ turn. omega (arith, now .turns .most turn, going .h);

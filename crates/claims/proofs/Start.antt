@@ -101,9 +101,9 @@ module _ (f : Fields) (fits : InRange f) where
       (let null : NodeOrNull (f .head .n) 255 = nowhere refl in
       thread-iff (f .head .n) (f .head .h) (freshThread u (length (getD (f .rows) u []))) .1 (search (arith, row-fits u h))))
 
-  nodes-fit : every (nodeInRange (f .head .object) (f .head .n)) (take (f .head .n + 1) (startOf f .nodes)) ≡ true
+  nodes-fit : every (nodeInRange (f .head .object) (f .head .capacity) (f .head .n)) (take (f .head .n + 1) (startOf f .nodes)) ≡ true
   nodes-fit =
-      every-first (nodeInRange (f .head .object) (f .head .n)) zeroNode (f .head .n + 1) (startOf f .nodes) (λ m h.
+      every-first (nodeInRange (f .head .object) (f .head .capacity) (f .head .n)) zeroNode (f .head .n + 1) (startOf f .nodes) (λ m h.
       rw (node-start m (omega (arith, fits .head .n))) (or-true (leb 255 (f .head .n))))
 
   rows-fit : rowsInRange (f .head .object) (startOf f .requests) 0 (take (f .head .n) (startOf f .threads)) ≡ true

@@ -1,5 +1,5 @@
--- Demand 3 of document 01, and the precedence of request No. 1: one claim about the whole list of entries of a file's run. The entries are in Entries.antt, the
--- terms in the crate `history`. Up to `Holds` each definition reads the file and the entries alone; `Demand3` ties them to the machine.
+-- Demand 3 of document 01, the precedence of request No. 1 and the counts of No. 3: one claim about the whole list of entries of a file's run. The entries
+-- are in Entries.antt, the terms in the crate `history`. Up to `Holds` each definition reads the file and the entries alone; `Demand3` ties them to the machine.
 -- The parts: 1 what is served, 2 the records, 3 the combiner, 4 turns, 5 remote references, 6 no refusal, 7 when calls began and returned.
 use Prim.Native.Nat.{ℕ, suc, _+_, _-_, _*_, _≤_, _<_, _^_}
 use mathlib.Core.Path.{_≡_}
@@ -94,7 +94,7 @@ pub record Holds (f : Fields) (history : List Entry) (s a : ℕ) : Type 0 where
   pub requests : map (λ (w : Serving). w .req) (servings history) ≡ map (λ (c : Call). Asked (askedBy f c)) (take a (swapOrder history))
   pub answers : map (λ (w : Serving). w .answer) (servings history) ≡ map Answered (take a (plainAnswers f history))
   -- 2: there are s records, of `recordLength` bytes. Record i names the thread and request of Swap i, shows the plain object's answer i, whose value has 32 bits, or
-  -- none from a on, and which thread of the file served it, in which turn that has begun, or none
+  -- none from a on, and which thread of the file served it, in which turn that has begun, or none; where its mark is done it shows a count of 1 to the capacity
   pub records : length (recordsOf history) ≡ s
   pub bytes : Each RecordSized (recordsOf history)
   pub names : (i : ℕ) → i < s → take 2 (getD (recordsOf history) i []) ≡ swapAt history i .thread .0 ∷ swapAt history i .request ∷ []
@@ -107,6 +107,8 @@ pub record Holds (f : Fields) (history : List Entry) (s a : ℕ) : Type 0 where
   pub served-in : (i : ℕ) → i < a → shownOf (swapAt history i) (servings history) .turn < howMany TurnBegins history
   pub unserved : (i : ℕ) → a ≤ i → i < s → shownOf (swapAt history i) (servings history) ≡ unshown
   pub value-fits : (c : Call) → retValue (shownOf c (servings history) .ret) < 2 ^ 32
+  pub done-counts : (i : ℕ) → i < s → numberAt (getD (recordsOf history) i []) 2 1 ≡ 0
+      → (1 ≤ numberAt (getD (recordsOf history) i []) 4 4) × (numberAt (getD (recordsOf history) i []) 4 4 ≤ f .head .capacity)
   -- 3: at most one thread is combiner, and no other applies a request
   pub one-combiner : (t u : ThreadId) → combines t history ≡ true → combines u history ≡ true → t ≡ u
   pub combiner-applies : happened outsideTurn history ≡ false

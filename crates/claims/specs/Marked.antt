@@ -1,4 +1,5 @@
--- The marked runs of document 01, 'Runs that touch a bound', and three of request No. 1: the bytes of each file, and the whole result that they give.
+-- The marked runs of document 01, 'Runs that touch a bound', three of request No. 1 and two of request No. 3: the bytes of each file, and the whole result
+-- that they give.
 use Prim.Native.Nat.{ℕ}
 use mathlib.Core.Bool.{Bool, true, false}
 use mathlib.Core.List.{List, [], _∷_, _++_}
@@ -84,6 +85,23 @@ twoAdds entries = alone Counter 0 (Add 5 ∷ Add 7 ∷ []) entries
 abbrev pub everyAnswer : List ℕ
 everyAnswer = alone Queue 1 (Put 3 ∷ Put 4 ∷ Take ∷ Take ∷ []) 84
 
+-- an object of capacity 2 filled, full, with an item taken and one put again, then emptied and found empty
+abbrev pub fillsTwo : Kind → List ℕ
+fillsTwo object = alone object 2 (Put 9 ∷ Put 8 ∷ Put 7 ∷ Take ∷ Put 6 ∷ Take ∷ Take ∷ Take ∷ []) 168
+
+-- its records, with the values of the three takes
+abbrev pub fillsTwoRecords : ℕ → ℕ → ℕ → List (List ℕ)
+fillsTwoRecords first second third =
+    listed 0 0 done 1 0 0 9 hasReturned 0 20
+    ∷ listed 0 1 done 2 0 1 2 hasReturned 21 41
+    ∷ listed 0 2 full 0 0 2 0 hasReturned 42 62
+    ∷ listed 0 3 value first 0 3 0 hasReturned 63 83
+    ∷ listed 0 4 done 2 0 4 0 hasReturned 84 104
+    ∷ listed 0 5 value second 0 5 0 hasReturned 105 125
+    ∷ listed 0 6 value third 0 6 0 hasReturned 126 146
+    ∷ listed 0 7 empty 0 0 7 0 hasReturned 147 167
+    ∷ []
+
 -- queue, capacity 4, n = 2; thread 0 puts 7, thread 1 takes. Entries 0 eight times, 1 nine times, then 0 and 1 so many times
 abbrev pub putAndTake : ℕ → ℕ → ℕ → List ℕ
 putAndTake h zeros ones =
@@ -105,10 +123,10 @@ markedRuns =
     ∷ gives (twoAdds 5) (counted 1 0 0 0 4) (waiting ∷ [])
     ∷ gives (twoAdds 43) (counted 2 2 1 0 11) (served ∷ listed 0 1 value 5 0 1 2 hasReturned 21 41 ∷ [])
     -- two threads, h = 8 and h = 1
-    ∷ gives (putAndTake 8 20 3) (counted 2 1 0 1 24) (listed 0 0 done 0 0 0 14 hasReturned 0 36 ∷ listed 1 0 value 7 0 0 10 hasReturned 8 39 ∷ [])
-    ∷ gives (putAndTake 1 13 13) (counted 2 2 0 1 20) (listed 0 0 done 0 0 0 10 hasReturned 0 29 ∷ listed 1 0 value 7 1 1 10 hasReturned 8 42 ∷ [])
+    ∷ gives (putAndTake 8 20 3) (counted 2 1 0 1 24) (listed 0 0 done 1 0 0 14 hasReturned 0 36 ∷ listed 1 0 value 7 0 0 10 hasReturned 8 39 ∷ [])
+    ∷ gives (putAndTake 1 13 13) (counted 2 2 0 1 20) (listed 0 0 done 1 0 0 10 hasReturned 0 29 ∷ listed 1 0 value 7 1 1 10 hasReturned 8 42 ∷ [])
     -- full and empty
-    ∷ gives (alone Queue 1 (Put 1 ∷ Put 2 ∷ []) 42) (counted 2 2 0 0 11) (listed 0 0 done 0 0 0 9 hasReturned 0 20 ∷ listed 0 1 full 0 0 1 2 hasReturned 21 41 ∷ [])
+    ∷ gives (alone Queue 1 (Put 1 ∷ Put 2 ∷ []) 42) (counted 2 2 0 0 11) (listed 0 0 done 1 0 0 9 hasReturned 0 20 ∷ listed 0 1 full 0 0 1 2 hasReturned 21 41 ∷ [])
     ∷ gives (alone Stack 1 (Take ∷ []) 21) (counted 1 1 0 0 9) (listed 0 0 empty 0 0 0 9 hasReturned 0 20 ∷ [])
     -- the sum past 4,294,967,295
     ∷ gives (alone Counter 0 (Add 4_294_967_295 ∷ Add 1 ∷ Add 0 ∷ []) 63) (counted 3 3 0 0 11)
@@ -120,4 +138,7 @@ markedRuns =
     (listed 1 0 none 0 255 65535 4 stillOpen 4 4_294_967_295 ∷ waiting ∷ [])
     ∷ gives (fileOf Counter 2 1 0 ([] ∷ (Add 5 ∷ []) ∷ []) (replicate 1 0 ++ replicate 21 1)) (counted 1 1 1 0 9)
     (listed 1 0 value 0 1 0 9 hasReturned 1 21 ∷ [])
+    -- request No. 3: the counts of done puts
+    ∷ gives (fillsTwo Stack) (counted 8 8 0 0 11) (fillsTwoRecords 8 6 9)
+    ∷ gives (fillsTwo Queue) (counted 8 8 0 0 11) (fillsTwoRecords 9 8 6)
     ∷ []

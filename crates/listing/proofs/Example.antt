@@ -3,13 +3,12 @@ use Prim.Native.Nat.{ℕ}
 use mathlib.Core.Path.{_≡_, refl}
 use mathlib.Core.List.{List, [], _∷_, map}
 use Rattle.object.specs.declared.Kind.the-variants.{Stack}
-use Rattle.object.specs.declared.Request.the-variants.{Take}
 use Rattle.bench_file.specs.Reading.{field, littleEndian, byte, ruledByte, several, end}
 use Rattle.bench_file.specs.Layout.{startReader, limitsReader, headReader, requestReader, rowReader, scheduleReader, fileReader, judgeOf}
 use Rattle.bench_file.specs.Bytes.{lowFirst, eachBytes, bytesOf}
 use Rattle.bench_file.specs.Examples.{sixtyFour}
 use Rattle.claims.specs.Entries.{entriesFrom}
-use Rattle.claims.specs.Marked.{alone, twoAdds, everyAnswer, putAndTake}
+use Rattle.claims.specs.Marked.{twoAdds, everyAnswer, fillsTwo, putAndTake}
 use Rattle.cells.specs.Text.{digits, numbered}
 use Rattle.cells.specs.Cells.{recordCells}
 use Rattle.cells.specs.Promise.{refusalLine}
@@ -17,7 +16,7 @@ use Rattle.listing.specs.Examples.{exampleListings}
 use Rattle.listing.specs.Listing.{headLine, recordLine, listingOf}
 
 pub examples-listed
-    : map (λ (file : List ℕ). listingOf (judgeOf file)) (sixtyFour ∷ twoAdds 20 ∷ twoAdds 5 ∷ everyAnswer ∷ alone Stack 1 (Take ∷ []) 21 ∷ putAndTake 1 13 13 ∷ [] ∷ [])
+    : map (λ (file : List ℕ). listingOf (judgeOf file)) (sixtyFour ∷ twoAdds 20 ∷ twoAdds 5 ∷ everyAnswer ∷ fillsTwo Stack ∷ putAndTake 1 13 13 ∷ [] ∷ [])
     ≡ exampleListings
 unfolding judgeOf fileReader headReader startReader limitsReader rowReader requestReader scheduleReader ruledByte byte several field littleEndian end lowFirst eachBytes bytesOf sixtyFour entriesFrom digits numbered recordCells refusalLine headLine recordLine listingOf exampleListings
 examples-listed = refl

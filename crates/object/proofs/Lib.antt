@@ -1,4 +1,5 @@
 pub mod Choice
+pub mod Counting
 pub mod Each
 pub mod Fitting
 pub mod Inverse

@@ -1,4 +1,5 @@
--- A request applied to a storage of 64 places does what the plain object does, and leaves 64 places, those past the items then held as they were. Assumes nothing.
+-- A request applied to a storage of 64 places does what the plain object does, with an answer in range that tells the items then held, and leaves 64 places,
+-- those past these items as they were. Assumes nothing.
 use Prim.Native.Nat.{ℕ, _+_, _-_, _≤_, _<_}
 use mathlib.Core.List.{List}
 use mathlib.Core.Path.{_≡_, refl, sym, ap, _∙_}
@@ -18,18 +19,25 @@ use Rattle.object.specs.declared.Answer.{Answer}
 use Rattle.object.specs.declared.Answer.the-variants.{Done, Value, Empty, Full}
 use Rattle.object.specs.declared.Object.{Object}
 use Rattle.object.specs.declared.Applied.{Applied}
-use Rattle.object.specs.Paper.{leastCapacity, mostCapacity, capacityAllowed}
+use Rattle.object.specs.Paper.{leastCapacity, mostCapacity, capacityAllowed, answerInRange}
 use Rattle.object.specs.Plain.{Response, respond, holding, plainStep, plainPut, plainTakeFirst, plainTakeLast, plainAdd}
-use Rattle.object.specs.Apply.{contents, knows, objectInRange, heldInRange, answered, refusedWith, stored, movedDown, putOf, takeFirstOf, takeLastOf, addOf, appliedKnown, applyOf, AppliesPlainly}
+use Rattle.object.specs.Apply.{contents, knows, objectInRange, heldInRange, answered, refusedWith, stored, movedDown, putOf, takeFirstOf, takeLastOf, addOf, appliedKnown, applyOf, TellsHeld, AppliesPlainly}
+use Rattle.object.proofs.Counting.{more-fits}
 
 -- past the items that it holds, an object has the places of ob
 abbrev pub PastHeld : Object → Object → Type 0
 PastHeld ob after = drop (after .held) (after .items) ≡ drop (after .held) (ob .items)
 
--- r is not refused, is what the plain object responds, and leaves a storage within the capacity and of 64 places, past its items those of ob
+-- an answer is in range and tells the items held
+abbrev Told : ℕ → Answer → ℕ → Type 0
+Told capacity a held = (answerInRange capacity a ≡ true) × TellsHeld a held
+
+-- r is not refused, is what the plain object responds, with such an answer, and leaves a storage within the capacity and of 64 places, past its items those
+-- of ob
 record Meets (capacity : ℕ) (ob : Object) (p : Response) (r : Applied) : Type 0 where
   accepted : r .refusal ≡ 0
   plain : p ≡ record { answer = r .answer; after = contents (r .object) }
+  told : Told capacity (r .answer) (r .object .held)
   held : r .object .held ≤ capacity
   places : length (r .object .items) ≡ 64
   past : PastHeld ob (r .object)
@@ -45,15 +53,16 @@ module _ (capacity : ℕ) (ob : Object) (long : length (ob .items) ≡ 64) (room
   count : length (take (ob .held) (ob .items)) ≡ ob .held
   count = length-take-le (ob .held) (ob .items) (omega arith)
 
-  unchanged : (a : Answer) → Meets capacity ob (respond a (contents ob)) (answered a ob)
-  unchanged a = record { accepted = refl; plain = refl; held = fits; places = long; past = refl }
+  unchanged : (a : Answer) → Told capacity a (ob .held) → Meets capacity ob (respond a (contents ob)) (answered a ob)
+  unchanged a c = record { accepted = refl; plain = refl; told = c; held = fits; places = long; past = refl }
 
-  changed : (a : Answer) {values items : List ℕ} {held : ℕ}
+  changed : (a : Answer) {values items : List ℕ} {held : ℕ} → Told capacity a held
       → values ≡ take held items → held ≤ capacity → length items ≡ 64 → drop held items ≡ drop held (ob .items)
       → Meets capacity ob (respond a (holding (contents ob) values)) (answered a (stored ob items held))
-  changed a e h l k = record {
+  changed a c e h l k = record {
     accepted = refl;
     plain = ap (λ (vs : List ℕ). respond a (holding (contents ob) vs)) e;
+    told = c;
     held = h;
     places = l;
     past = k;
@@ -61,12 +70,12 @@ module _ (capacity : ℕ) (ob : Object) (long : length (ob .items) ≡ 64) (room
 
   put-meets : (v : ℕ) → Meets capacity ob (plainPut capacity v (contents ob)) (putOf capacity v ob)
   put-meets v =
-      rw count (either (ltb (ob .held) capacity)
+      rw (length-append, count) (either (ltb (ob .held) capacity)
       (λ t.
       let h : ob .held < capacity = ltb-true _ _ t in
-      changed Done (sym (rw add-one (take-suc-set (ob .items) (ob .held) v (omega arith)))) (omega arith)
+      changed (Done (ob .held + 1)) (more-fits capacity (ob .held) h, refl) (sym (rw add-one (take-suc-set (ob .items) (ob .held) v (omega arith)))) (omega arith)
       (simp length-set long) (drop-set-lt (ob .held + 1) (ob .items) (ob .held) v (omega arith)))
-      (λ t. unchanged Full))
+      (λ t. unchanged Full (refl, tt)))
 
   -- the value at place i is given up
   take-meets : (i : ℕ) (values items : List ℕ)
@@ -77,11 +86,11 @@ module _ (capacity : ℕ) (ob : Object) (long : length (ob .items) ≡ 64) (room
       (cond (eqb (ob .held) 0) (answered Empty ob)
       (answered (Value (getD (ob .items) i 0)) (stored ob items (ob .held - 1))))
   take-meets i values items f =
-      either (eqb (ob .held) 0) (λ t. unchanged Empty)
+      either (eqb (ob .held) 0) (λ t. unchanged Empty (refl, tt))
       (λ t.
       let g = f (omega (arith, eqb-false (ob .held) 0 t)) in
       let below = g .0 in
-      rw getD-take (changed (Value (getD (ob .items) i 0)) (g .1) (omega arith) (g .2) (g .3)))
+      rw getD-take (changed (Value (getD (ob .items) i 0)) (refl, tt) (g .1) (omega arith) (g .2) (g .3)))
 
   take-first-meets : Meets capacity ob (plainTakeFirst (contents ob)) (takeFirstOf ob)
   take-first-meets =
@@ -96,7 +105,7 @@ module _ (capacity : ℕ) (ob : Object) (long : length (ob .items) ≡ 64) (room
       (λ h. (omega arith, take-take (ob .held - 1) (ob .held) (ob .items) (omega arith), long, refl)))
 
   add-meets : (v : ℕ) → Meets capacity ob (plainAdd v (contents ob)) (addOf v ob)
-  add-meets v = record { accepted = refl; plain = refl; held = fits; places = long; past = refl }
+  add-meets v = record { accepted = refl; plain = refl; told = (refl, tt); held = fits; places = long; past = refl }
 
   meets : (kind : Kind) (request : Request) → T (knows kind request)
       → Meets capacity ob (plainStep kind capacity request (contents ob)) (appliedKnown kind capacity request ob)
@@ -144,6 +153,8 @@ module _ (kind : Kind) (capacity : ℕ) (ob : Object) (request : Request) (long 
               λ _.
               and-i allowed (leb after capacity) (and-l allowed (leb (ob .held) capacity) h)
               (le→leb after capacity (m .held));
+          in-range = rw (m .told .0) tt;
+          tells = m .told .1;
         },
         m .places,
         m .past,
@@ -152,7 +163,7 @@ module _ (kind : Kind) (capacity : ℕ) (ob : Object) (request : Request) (long 
   when-refused : (number : ℕ) → (T (objectInRange kind capacity ob) → T (knows kind request) → ⊥)
       → Plainly (refusedWith number ob)
   when-refused number out =
-      (record { accepted = λ h k. absurd (out h k); plain = λ h k. absurd (out h k); stays = λ h. h }, long, refl)
+      (record { accepted = λ h k. absurd (out h k); plain = λ h k. absurd (out h k); stays = λ h. h; in-range = tt; tells = tt }, long, refl)
 
   by-tests : (t u : Bool) → objectInRange kind capacity ob ≡ t → knows kind request ≡ u
       → Plainly (cond t (cond u (appliedKnown kind capacity request ob) (refusedWith 9 ob)) (refusedWith 14 ob))

@@ -13,7 +13,7 @@ use Rattle.object.specs.declared.Answer.{Answer}
 use Rattle.object.specs.declared.Answer.the-variants.{Done, Value, Empty, Full}
 use Rattle.object.specs.declared.Object.{Object}
 use Rattle.object.specs.declared.Applied.{Applied}
-use Rattle.object.specs.Paper.{requestCode, codeKnown, capacityAllowed}
+use Rattle.object.specs.Paper.{requestCode, codeKnown, capacityAllowed, answerInRange}
 use Rattle.object.specs.Plain.{Plain, plainStep}
 
 -- what the storage holds: the first `held` places, and the sum
@@ -50,11 +50,11 @@ stored ob items held = record { items = items; held = held; sum = ob .sum }
 abbrev pub movedDown : List ℕ → ℕ → List ℕ
 movedDown items held = drop 1 (take held items) ++ drop (held - 1) items
 
--- a put writes the first place past the items held
+-- a put writes the first place past the items held, and is answered how many are held then
 abbrev pub putOf : ℕ → ℕ → Object → Applied
 putOf capacity v ob =
     cond (ltb (ob .held) capacity)
-    (answered Done (stored ob (set (ob .items) (ob .held) v) (ob .held + 1)))
+    (answered (Done (ob .held + 1)) (stored ob (set (ob .items) (ob .held) v) (ob .held + 1)))
     (answered Full ob)
 
 abbrev pub takeFirstOf : Object → Applied
@@ -96,9 +96,19 @@ abbrev pub applyOf : Kind → ℕ → Object → Request → Applied
 applyOf kind capacity ob request =
     cond (objectInRange kind capacity ob) (appliedTo kind capacity request ob) (refusedWith 14 ob)
 
--- a request that the object knows, on an object in range, is never refused; its answer and what the storage then holds are the plain object's
+-- a done put tells the count of items held
+abbrev pub TellsHeld : Answer → ℕ → Type 0
+TellsHeld (Done count) held = count ≡ held
+TellsHeld (Value v) held = Unit
+TellsHeld Empty held = Unit
+TellsHeld Full held = Unit
+
+-- a request that the object knows, on an object in range, is never refused; its answer and what the storage then holds are the plain object's. An object in
+-- range stays so. Every answer is in range, and a done one tells how many items are then held
 pub record AppliesPlainly (kind : Kind) (capacity : ℕ) (ob : Object) (request : Request) (r : Applied) : Type 0 where
   pub accepted : T (objectInRange kind capacity ob) → T (knows kind request) → r .refusal ≡ 0
   pub plain : T (objectInRange kind capacity ob) → T (knows kind request)
       → plainStep kind capacity request (contents ob) ≡ record { answer = r .answer; after = contents (r .object) }
   pub stays : T (objectInRange kind capacity ob) → T (objectInRange kind capacity (r .object))
+  pub in-range : T (answerInRange capacity (r .answer))
+  pub tells : TellsHeld (r .answer) (r .object .held)

@@ -1,6 +1,6 @@
--- The numbers that document 01 gives to objects, requests and answers, and the two ranges that depend on the object.
+-- The numbers that document 01 and request No. 3 give to objects, requests and answers, and the ranges that depend on the object and its capacity.
 use Prim.Native.Nat.{ℕ}
-use mathlib.Core.Bool.{Bool, not, _&&_, _||_}
+use mathlib.Core.Bool.{Bool, true, not, _&&_, _||_}
 use mathlib.Core.List.{[], _∷_}
 use lib.ListN.{getD}
 use lib.Dec.{leb, eqb}
@@ -43,14 +43,14 @@ requestOf code value = getD (Put value ∷ Take ∷ []) code (Add value)
 
 -- the mark of an answer, byte 2 of a record
 abbrev pub answerMark : Answer → ℕ
-answerMark Done = 0
+answerMark (Done count) = 0
 answerMark (Value v) = 1
 answerMark Empty = 2
 answerMark Full = 3
 
--- the value of an answer, bytes 4 to 7 of a record: 0 unless the mark is 1
+-- the value of an answer, bytes 4 to 7 of a record: the count that a done put carries, or the value; 0 unless the mark is 0 or 1
 abbrev pub answerValue : Answer → ℕ
-answerValue Done = 0
+answerValue (Done count) = count
 answerValue (Value v) = v
 answerValue Empty = 0
 answerValue Full = 0
@@ -86,3 +86,10 @@ mostCapacity Counter = 0
 
 abbrev pub capacityAllowed : Kind → ℕ → Bool
 capacityAllowed kind capacity = within (leastCapacity kind) capacity (mostCapacity kind)
+
+-- a done count is 1 to the capacity; full and empty carry none, and a value may be any
+abbrev pub answerInRange : ℕ → Answer → Bool
+answerInRange capacity (Done count) = within 1 count capacity
+answerInRange capacity (Value v) = true
+answerInRange capacity Empty = true
+answerInRange capacity Full = true

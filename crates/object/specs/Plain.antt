@@ -1,4 +1,4 @@
--- The plain object of document 01, 'Demand 3 in full': what a request is answered, on lists and a sum.
+-- The plain object of document 01, 'Demand 3 in full', with the count of request No. 3: what a request is answered, on lists and a sum.
 use Prim.Native.Nat.{ℕ, _+_, _-_, _%_}
 use mathlib.Core.Bool.{cond}
 use mathlib.Core.List.{List, [], _∷_, _++_}
@@ -31,11 +31,12 @@ holding p values = record { values = values; sum = p .sum }
 abbrev pub respond : Answer → Plain → Response
 respond answer after = record { answer = answer; after = after }
 
--- a put on a list shorter than the capacity adds its value at the end: done; at capacity: full, the list stays
+-- a put on a list shorter than the capacity adds its value at the end: done, with the count of values then held; at capacity: full, the list stays
 abbrev pub plainPut : ℕ → ℕ → Plain → Response
 plainPut capacity v p =
+    let longer = p .values ++ v ∷ [] in
     cond (ltb (length (p .values)) capacity)
-    (respond Done (holding p (p .values ++ v ∷ [])))
+    (respond (Done (length longer)) (holding p longer))
     (respond Full p)
 
 -- a take from an empty list: empty, it stays; else the queue gives up its first value

@@ -1,7 +1,7 @@
 // The shared object: requests and answers, and the queue, the stack and the counter that a request is applied to.
 ghost use mathlib.Core.Path.{_≡_};
 ghost use Prim.Native.Nat.{_≤_};
-ghost use Rattle.object.specs.Paper.{within, kindNumber, kindOf, requestCode, requestValue, requestOf, answerMark, answerValue, leastCode, mostCode, codeKnown, valueAllowed, leastCapacity, mostCapacity, capacityAllowed};
+ghost use Rattle.object.specs.Paper.{within, kindNumber, kindOf, requestCode, requestValue, requestOf, answerMark, answerValue, leastCode, mostCode, codeKnown, valueAllowed, leastCapacity, mostCapacity, capacityAllowed, answerInRange};
 ghost use Rattle.object.specs.Plain.{fresh};
 ghost use Rattle.object.specs.Apply.{freshObject, contents, knows, answered, refusedWith, putOf, takeFirstOf, takeLastOf, takeOf, addOf, movedDown, heldInRange, appliedTo, applyOf, AppliesPlainly};
 
@@ -19,8 +19,9 @@ pub enum Request {
     Add(u32),
 }
 
+// A put that is done carries the count of items held after it.
 pub enum Answer {
-    Done,
+    Done(u32),
     Value(u32),
     Empty,
     Full,
@@ -106,7 +107,7 @@ pub fn answer_mark(answer: Answer) -> u8
     ensures { λ r. ⌜ r ≡ answerMark answer ⌝ }
 {
     match answer {
-        Answer::Done => 0,
+        Answer::Done(_) => 0,
         Answer::Value(_) => 1,
         Answer::Empty => 2,
         Answer::Full => 3,
@@ -117,7 +118,7 @@ pub fn answer_value(answer: Answer) -> u32
     ensures { λ r. ⌜ r ≡ answerValue answer ⌝ }
 {
     match answer {
-        Answer::Done => 0,
+        Answer::Done(count) => count,
         Answer::Value(value) => value,
         Answer::Empty => 0,
         Answer::Full => 0,
@@ -188,6 +189,18 @@ pub fn capacity_allowed(kind: Kind, capacity: u8) -> bool
     between(least_capacity(kind), capacity, most_capacity(kind))
 }
 
+// A done count is 1 to the capacity; every other answer is in range.
+pub fn answer_in_range(capacity: u8, answer: Answer) -> bool
+    ensures { λ r. ⌜ r ≡ answerInRange capacity answer ⌝ }
+{
+    match answer {
+        Answer::Done(count) => (1 <= count) & (count <= capacity as u32),
+        Answer::Value(_) => true,
+        Answer::Empty => true,
+        Answer::Full => true,
+    }
+}
+
 // The object as it is at the start.
 pub fn fresh() -> Object
     ensures { λ r. ⌜ (r ≡ freshObject) × (contents r ≡ fresh) ⌝ }
@@ -254,7 +267,8 @@ fn put(capacity: u8, value: u32, object: Object) -> Applied
         let place = held as usize;
         after.items[place] = value;
         after.held = held + 1;
-        return answered(Answer::Done, after);
+        let count = after.held as u32;
+        return answered(Answer::Done(count), after);
     }
     answered(Answer::Full, object)
 }

@@ -3,12 +3,13 @@ use mathlib.Core.Path.{_≡_, refl}
 use mathlib.Core.List.{[], _∷_, map, zipWith}
 use Prim.Native.Nat.{ℕ}
 use lib.ListN.{length, replicate}
+use Rattle.object.specs.declared.Kind.the-variants.{Stack}
 use Rattle.bench_file.specs.Reading.{field, littleEndian, byte, ruledByte, several, end}
 use Rattle.bench_file.specs.Layout.{startReader, limitsReader, headReader, requestReader, rowReader, scheduleReader, fileReader, judgeOf}
 use Rattle.bench_file.specs.Bytes.{lowFirst, eachBytes, bytesOf}
 use Rattle.bench_file.specs.Examples.{sixtyFour}
 use Rattle.claims.specs.Entries.{entriesFrom}
-use Rattle.claims.specs.Marked.{twoAdds, everyAnswer, putAndTake}
+use Rattle.claims.specs.Marked.{twoAdds, everyAnswer, fillsTwo, putAndTake}
 use Rattle.cells.specs.Text.{digits}
 use Rattle.cells.specs.Promise.{refusedAs}
 use Rattle.cells.specs.Rows.{rowText}
@@ -23,6 +24,7 @@ pub example-pages
     ∷ pageBuffer (replicate 112 0) (judgeOf (twoAdds 5))
     ∷ pageBuffer (replicate 56 0) (judgeOf (twoAdds 4))
     ∷ pageBuffer (replicate 280 0) (judgeOf everyAnswer)
+    ∷ pageBuffer (replicate 504 0) (judgeOf (fillsTwo Stack))
     ∷ pageBuffer (replicate 168 0) (judgeOf (putAndTake 8 20 3))
     ∷ pageBuffer (replicate 168 0) (judgeOf (putAndTake 1 13 13))
     ∷ []

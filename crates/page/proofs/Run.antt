@@ -54,7 +54,7 @@ or-hyphen-fits width none n b =
 
 value-fits : (ret : RetVal) → retValue ret < 2 ^ 32 → FitsIn 10 (valueCell ret)
 value-fits RetVal.NoAnswer b = (omega arith, tt)
-value-fits (RetVal.Answered Answer.Done) b = (omega arith, tt)
+value-fits (RetVal.Answered (Answer.Done count)) b = (at-most 9 count, b)
 value-fits (RetVal.Answered (Answer.Value v)) b = (at-most 9 v, b)
 value-fits (RetVal.Answered Answer.Empty) b = (omega arith, tt)
 value-fits (RetVal.Answered Answer.Full) b = (omega arith, tt)

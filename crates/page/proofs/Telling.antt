@@ -152,7 +152,7 @@ retIn word cell = retOf (wordNumber word - 3) (numberIn 0 cell)
 
 ret-told : (ret : RetVal) → retIn (markWord ret) (valueCell ret) ≡ ret
 ret-told RetVal.NoAnswer = refl
-ret-told (RetVal.Answered Answer.Done) = refl
+ret-told (RetVal.Answered (Answer.Done count)) = refl
 ret-told (RetVal.Answered (Answer.Value v)) = refl
 ret-told (RetVal.Answered Answer.Empty) = refl
 ret-told (RetVal.Answered Answer.Full) = refl

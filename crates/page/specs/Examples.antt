@@ -1,5 +1,5 @@
--- Whole pages: of document 01's 64-byte file, of it cut to 20 entries (served and still open), to 5 and to 4, of a queue that gives every answer, and of two
--- threads with h = 8 and h = 1; and the widest row.
+-- Whole pages: of document 01's 64-byte file, of it cut to 20 entries (served and still open), to 5 and to 4, of a queue that gives every answer, of a stack
+-- with request No. 3's counts, and of two threads with h = 8 and h = 1; and the widest row.
 use Prim.Native.Nat.{ℕ}
 use mathlib.Core.Bool.{true}
 use mathlib.Core.List.{List, [], _∷_, _++_}
@@ -20,15 +20,24 @@ examplePages =
     ∷ (headPage ++ text "  0  0  0 none  -          -  -              4 open    \n")
     ∷ headPage
     ∷ (headPage
-    ++ text "  0  0  0 done  -           0     0          9 returned\n"
+    ++ text "  0  0  0 done           1  0     0          9 returned\n"
     ++ text "  1  0  1 full  -           0     1          2 returned\n"
     ++ text "  2  0  2 value          3  0     2          0 returned\n"
     ++ text "  3  0  3 empty -           0     3          0 returned\n")
     ∷ (headPage
-    ++ text "  0  0  0 done  -           0     0         14 returned\n"
+    ++ text "  0  0  0 done           1  0     0          9 returned\n"
+    ++ text "  1  0  1 done           2  0     1          2 returned\n"
+    ++ text "  2  0  2 full  -           0     2          0 returned\n"
+    ++ text "  3  0  3 value          8  0     3          0 returned\n"
+    ++ text "  4  0  4 done           2  0     4          0 returned\n"
+    ++ text "  5  0  5 value          6  0     5          0 returned\n"
+    ++ text "  6  0  6 value          9  0     6          0 returned\n"
+    ++ text "  7  0  7 empty -           0     7          0 returned\n")
+    ∷ (headPage
+    ++ text "  0  0  0 done           1  0     0         14 returned\n"
     ++ text "  1  1  0 value          7  0     0         10 returned\n")
     ∷ (headPage
-    ++ text "  0  0  0 done  -           0     0         10 returned\n"
+    ++ text "  0  0  0 done           1  0     0         10 returned\n"
     ++ text "  1  1  0 value          7  1     1         10 returned\n")
     ∷ []
 

@@ -1,9 +1,14 @@
--- What holds of each node in use of a state in range. Assumes nothing.
+-- What holds of each node in use of a state in range; so a done count outside 1 to the capacity in the ret of one puts a state out of range, and so does any
+-- done where the object is the counter. Assumes nothing.
 use Prim.Native.Nat.{ℕ, _+_, _≤_}
 use native.Mathlib.Omega.{arith}
 use mathlib.Core.Path.{_≡_}
-use mathlib.Core.Bool.{true}
+use mathlib.Core.Bool.{true, false, not-eq-not, and-eq-true-iff}
 use lib.ListN.{getD}
+use Rattle.object.specs.declared.Kind.the-variants.{Counter}
+use Rattle.object.specs.declared.Answer.the-variants.{Done}
+use Rattle.object.proofs.Within.{within-range}
+use Rattle.machine.specs.declared.RetVal.the-variants.{Answered}
 use Rattle.machine.specs.declared.Node.{Node}
 use Rattle.state.specs.declared.State.{State}
 use Rattle.state.specs.Range.{nodeInRange, inRange}
@@ -12,8 +17,24 @@ use Rattle.state.proofs.Kept.{first-at}
 use Rattle.state.proofs.RangeFacts.{NodeFits, node-iff, state-fits}
 
 module _ (s : State) (shaped : Shaped s) (m : ℕ) (used : m ≤ s .n) (none : Node) where
-  pub node-at : inRange s ≡ true → NodeFits (s .kind) (s .n) (getD (s .nodes) m none)
+  pub node-at : inRange s ≡ true → NodeFits (s .kind) (s .capacity) (s .n) (getD (s .nodes) m none)
   node-at range =
       let facts = state-fits s range in
-      node-iff (s .kind) (s .n) (getD (s .nodes) m none) .0
-      (first-at (nodeInRange (s .kind) (s .n)) (s .n + 1) (s .nodes) m (facts .nodes) (omega arith) (omega (arith, facts .small, shaped .nodes)) none)
+      node-iff (s .kind) (s .capacity) (s .n) (getD (s .nodes) m none) .0
+      (first-at (nodeInRange (s .kind) (s .capacity) (s .n)) (s .n + 1) (s .nodes) m (facts .nodes) (omega arith)
+      (omega (arith, facts .small, shaped .nodes)) none)
+
+  module _ (count : ℕ) (in-ret : getD (s .nodes) m none .ret ≡ Answered (Done count)) where
+    count-in-range : inRange s ≡ true → (1 ≤ count) × (count ≤ s .capacity)
+    count-in-range range = within-range 1 count (s .capacity) .0 (rw in-ret at (node-at range .ret))
+
+    pub done-judged : ((1 ≤ count) × (count ≤ s .capacity) → ⊥) → inRange s ≡ false
+    done-judged out = not-eq-not {b = false} .0 (λ range. out (count-in-range range))
+
+    pub counter-done-judged : s .kind ≡ Counter → inRange s ≡ false
+    counter-done-judged counter =
+        not-eq-not {b = false} .0
+        (λ range.
+        let held = rw counter at (state-fits s range .held) in
+        let no-capacity = within-range 0 (s .capacity) 0 .0 (and-eq-true-iff _ _ .0 held .0) in
+        omega (arith, no-capacity, count-in-range range))

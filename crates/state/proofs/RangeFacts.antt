@@ -17,7 +17,7 @@ use Rattle.machine.specs.declared.Node.{Node}
 use Rattle.machine.specs.declared.Thread.{Thread}
 use Rattle.state.specs.declared.Counts.{Counts}
 use Rattle.state.specs.declared.State.{State}
-use Rattle.state.specs.Range.{pointerInRange, lineInRange, threadInRange, reqInRange, nodeInRange, rowsInRange, headInRange, countsInRange, inRange}
+use Rattle.state.specs.Range.{pointerInRange, lineInRange, threadInRange, reqInRange, retInRange, nodeInRange, rowsInRange, headInRange, countsInRange, inRange}
 
 -- a node, or null
 pub data NodeOrNull (n m : ℕ) : Type 0 where
@@ -102,14 +102,15 @@ thread-iff n h th = (to, λ f. simp range-facts (search f depth 9))
     to e = let p = simp range-facts at e in search p
 
 -- the facts of a node
-pub record NodeFits (kind : Kind) (n : ℕ) (x : Node) : Type 0 where
+pub record NodeFits (kind : Kind) (capacity n : ℕ) (x : Node) : Type 0 where
   pub req : reqInRange kind (x .req) ≡ true
+  pub ret : retInRange capacity (x .ret) ≡ true
   pub next : NodeOrNull n (x .next .0)
 
-pub node-iff : (kind : Kind) (n : ℕ) (x : Node) → (nodeInRange kind n x ≡ true) ↔ NodeFits kind n x
-node-iff kind n x = (to, λ f. simp range-facts (search f))
+pub node-iff : (kind : Kind) (capacity n : ℕ) (x : Node) → (nodeInRange kind capacity n x ≡ true) ↔ NodeFits kind capacity n x
+node-iff kind capacity n x = (to, λ f. simp range-facts (search f))
   where
-    to : nodeInRange kind n x ≡ true → NodeFits kind n x
+    to : nodeInRange kind capacity n x ≡ true → NodeFits kind capacity n x
     to e = let p = simp range-facts at e in search p
 
 -- there are at most 16 threads
@@ -123,7 +124,7 @@ pub record StateFits (s : State) : Type 0 where
   pub held : heldInRange (s .kind) (s .capacity) (s .object .held) ≡ true
   pub tail : s .tail .0 ≤ s .n
   pub threads : every (threadInRange (s .n) (s .h)) (take (s .n) (s .threads)) ≡ true
-  pub nodes : every (nodeInRange (s .kind) (s .n)) (take (s .n + 1) (s .nodes)) ≡ true
+  pub nodes : every (nodeInRange (s .kind) (s .capacity) (s .n)) (take (s .n + 1) (s .nodes)) ≡ true
   pub rows : rowsInRange (s .kind) (s .requests) 0 (take (s .n) (s .threads)) ≡ true
 
 pub state-fits : (s : State) → inRange s ≡ true → StateFits s

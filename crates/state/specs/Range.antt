@@ -1,4 +1,5 @@
--- The ranges of a state, number by number: document 01, 'A single step judges 14 ..'. What lies past n, a thread's count or the items held is not judged.
+-- The ranges of a state, number by number: document 01, 'A single step judges 14 ..', and request No. 3. What lies past n, a thread's count or the items held
+-- is not judged.
 use Prim.Native.Nat.{ℕ, _+_, _*_, _^_}
 use mathlib.Core.Bool.{Bool, true, false, _&&_, _||_}
 use mathlib.Core.List.{List, [], _∷_}
@@ -6,11 +7,13 @@ use lib.ListN.{take, drop}
 use lib.Dec.{leb, ltb, eqb}
 use Rattle.object.specs.declared.Kind.{Kind}
 use Rattle.object.specs.Each.{every}
-use Rattle.object.specs.Paper.{within}
+use Rattle.object.specs.Paper.{within, answerInRange}
 use Rattle.object.specs.Apply.{heldInRange, knows}
 use Rattle.machine.specs.declared.NodeId.{NodeId}
 use Rattle.machine.specs.declared.Announced.{Announced}
 use Rattle.machine.specs.declared.Announced.the-variants.{NoRequest, Asked}
+use Rattle.machine.specs.declared.RetVal.{RetVal}
+use Rattle.machine.specs.declared.RetVal.the-variants.{NoAnswer, Answered}
 use Rattle.machine.specs.declared.Node.{Node}
 use Rattle.machine.specs.declared.Thread.{Thread}
 use Rattle.machine.specs.Lines.{isNull}
@@ -46,9 +49,13 @@ abbrev pub reqInRange : Kind → Announced → Bool
 reqInRange kind NoRequest = true
 reqInRange kind (Asked request) = knows kind request
 
--- any answer may stand in ret
-abbrev pub nodeInRange : Kind → ℕ → Node → Bool
-nodeInRange kind n x = reqInRange kind (x .req) && pointerInRange n true (x .next)
+-- ret is empty, or an answer in range for the capacity; the counter's is 0, so that no done is in range there
+abbrev pub retInRange : ℕ → RetVal → Bool
+retInRange capacity NoAnswer = true
+retInRange capacity (Answered answer) = answerInRange capacity answer
+
+abbrev pub nodeInRange : Kind → ℕ → ℕ → Node → Bool
+nodeInRange kind capacity n x = reqInRange kind (x .req) && retInRange capacity (x .ret) && pointerInRange n true (x .next)
 
 abbrev pub slotInRange : Kind → Slot → Bool
 slotInRange kind slot = knows kind (slot .request)
@@ -82,6 +89,6 @@ inRange s =
     headInRange s
     && pointerInRange (s .n) false (s .tail)
     && every (threadInRange (s .n) (s .h)) (take (s .n) (s .threads))
-    && every (nodeInRange (s .kind) (s .n)) (take (s .n + 1) (s .nodes))
+    && every (nodeInRange (s .kind) (s .capacity) (s .n)) (take (s .n + 1) (s .nodes))
     && rowsInRange (s .kind) (s .requests) 0 (take (s .n) (s .threads))
     && countsInRange (s .counts)

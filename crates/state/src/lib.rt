@@ -3,10 +3,11 @@ ghost use mathlib.Core.Path.{_≡_};
 ghost use Prim.Native.Nat.{_+_, _≤_};
 ghost use lib.ListN.{take};
 ghost use Rattle.object.specs.Each.{every};
-ghost use Rattle.state.specs.Range.{pointerInRange, lineInRange, requestsInRange, threadInRange, reqInRange, nodeInRange, slotInRange, rowOfThread, rowsInRange, headInRange, inRange};
+ghost use Rattle.state.specs.Range.{pointerInRange, lineInRange, requestsInRange, threadInRange, reqInRange, retInRange, nodeInRange, slotInRange, rowOfThread, rowsInRange, headInRange, inRange};
 use machine::Announced;
 use machine::Node;
 use machine::NodeId;
+use machine::RetVal;
 use machine::Thread;
 use object::Kind;
 use object::Object;
@@ -89,14 +90,25 @@ fn req_in_range(kind: Kind, req: Announced) -> bool
     }
 }
 
-fn node_in_range(kind: Kind, n: u8, node: Node) -> bool
-    ensures { λ r. ⌜ r ≡ nodeInRange kind n node ⌝ }
+fn ret_in_range(capacity: u8, ret: RetVal) -> bool
+    ensures { λ r. ⌜ r ≡ retInRange capacity ret ⌝ }
+{
+    match ret {
+        RetVal::NoAnswer => true,
+        RetVal::Answered(answer) => object::answer_in_range(capacity, answer),
+    }
+}
+
+fn node_in_range(kind: Kind, capacity: u8, n: u8, node: Node) -> bool
+    ensures { λ r. ⌜ r ≡ nodeInRange kind capacity n node ⌝ }
 {
     let req = node.req;
+    let ret = node.ret;
     let next = node.next;
     let req_fits = req_in_range(kind, req);
+    let ret_fits = ret_in_range(capacity, ret);
     let next_fits = pointer_in_range(n, true, next);
-    req_fits & next_fits
+    req_fits & ret_fits & next_fits
 }
 
 fn threads_in_range(n: u8, h: u8, threads: [Thread; 16]) -> bool
@@ -115,15 +127,15 @@ fn threads_in_range(n: u8, h: u8, threads: [Thread; 16]) -> bool
     true
 }
 
-fn nodes_in_range(kind: Kind, n: u8, nodes: [Node; machine::NODES]) -> bool
+fn nodes_in_range(kind: Kind, capacity: u8, n: u8, nodes: [Node; machine::NODES]) -> bool
     requires { ⌜ n ≤ 16 ⌝ }
-    ensures { λ r. ⌜ r ≡ every (nodeInRange kind n) (take (n + 1) nodes) ⌝ }
+    ensures { λ r. ⌜ r ≡ every (nodeInRange kind capacity n) (take (n + 1) nodes) ⌝ }
 {
     let count = (n as usize) + 1;
     let mut i: usize = 0;
     while i < count {
         let node = nodes[i];
-        if !node_in_range(kind, n, node) {
+        if !node_in_range(kind, capacity, n, node) {
             return false;
         }
         i += 1;
@@ -193,7 +205,7 @@ pub fn in_range(state: State) -> bool
     let requests = state.requests;
     let tail_fits = pointer_in_range(n, false, tail);
     let threads_fit = threads_in_range(n, h, threads);
-    let nodes_fit = nodes_in_range(kind, n, nodes);
+    let nodes_fit = nodes_in_range(kind, state.capacity, n, nodes);
     let rows_fit = rows_in_range(kind, requests, n, threads);
     tail_fits & threads_fit & nodes_fit & rows_fit
 }

@@ -9,7 +9,7 @@ use borrow.Author.Tests.{leb-true, leb-false, lt-leb, le-ltb, ne-eqb}
 use Rattle.object.specs.declared.Kind.{Kind}
 use Rattle.object.specs.declared.Request.{Request}
 use Rattle.object.specs.declared.Answer.{Answer}
-use Rattle.object.specs.Paper.{within}
+use Rattle.object.specs.Paper.{within, answerInRange}
 use Rattle.object.specs.Apply.{knows}
 use Rattle.machine.specs.declared.NodeId.{NodeId}
 use Rattle.machine.specs.declared.Node.{Node}
@@ -32,11 +32,11 @@ opposite false true f g = refl
 opposite true true f g = g refl
 
 -- what line k leaves of a thread, its node and Tail
-pub record Leaves (n h : ℕ) (kind : Kind) (th : Thread) (x : Node) (k : ℕ) (e : Effect) : Type 0 where
+pub record Leaves (n h : ℕ) (kind : Kind) (capacity : ℕ) (th : Thread) (x : Node) (k : ℕ) (e : Effect) : Type 0 where
   pub thread : (not (usesEmpty x k) && threadInRange n h (e .thread)) ≡ not (takesOut th x h k)
   pub count : e .thread .count ≡ th .count
   pub tail : e .tail .0 ≤ n
-  pub node : NodeFits kind n (e .node)
+  pub node : NodeFits kind capacity n (e .node)
 
 -- the lines at which a pointer of a thread is a node for sure
 abbrev sure : Pointer → ℕ → Bool
@@ -62,9 +62,10 @@ module _ (n h : ℕ) (th : Thread) where
       (first-at (λ (l : Line). sure (rowOf l .node) (number l)) 22 (L0 ∷ printed) k refl (omega arith) (omega arith) L0))
       f
 
-module _ (n h : ℕ) (kind : Kind) (th : Thread) (x : Node) (tail : NodeId) (request : Request) (answer : Answer)
-    (small : n ≤ 16) (tail-fits : tail .0 ≤ n) (x-fits : NodeFits kind n x)
-    (now : ThreadFits n h th (th .line)) (known : 0 < th .begun → knows kind request ≡ true) where
+module _ (n h : ℕ) (kind : Kind) (capacity : ℕ) (th : Thread) (x : Node) (tail : NodeId) (request : Request) (answer : Answer)
+    (small : n ≤ 16) (tail-fits : tail .0 ≤ n) (x-fits : NodeFits kind capacity n x)
+    (now : ThreadFits n h th (th .line)) (known : 0 < th .begun → knows kind request ≡ true)
+    (answer-fits : answerInRange capacity answer ≡ true) where
   -- a thread that fits goes on, unless the line uses an empty req or ret
   goes-on : (k : ℕ) (after : Thread) → takesOut th x h k ≡ usesEmpty x k → ThreadFits n h after (after .line)
       → (not (usesEmpty x k) && threadInRange n h after) ≡ not (takesOut th x h k)
@@ -72,18 +73,18 @@ module _ (n h : ℕ) (kind : Kind) (th : Thread) (x : Node) (tail : NodeId) (req
 
   -- a line that keeps the node and Tail, and one that writes the node
   kept : (k : ℕ) (after : Thread) → after .count ≡ th .count → takesOut th x h k ≡ usesEmpty x k
-      → ThreadFits n h after (after .line) → Leaves n h kind th x k (keeps th x tail h request answer after)
+      → ThreadFits n h after (after .line) → Leaves n h kind capacity th x k (keeps th x tail h request answer after)
   kept k after c e f = record { thread = goes-on k after e f; count = c; tail = tail-fits; node = x-fits }
 
-  written : (k line : ℕ) (after : Node) → NodeFits kind n after → takesOut th x h k ≡ usesEmpty x k
-      → ThreadFits n h (goes th line) line → Leaves n h kind th x k (writes th x tail h request answer after line)
+  written : (k line : ℕ) (after : Node) → NodeFits kind capacity n after → takesOut th x h k ≡ usesEmpty x k
+      → ThreadFits n h (goes th line) line → Leaves n h kind capacity th x k (writes th x tail h request answer after line)
   written k line after p e f = record { thread = goes-on k (goes th line) e f; count = refl; tail = tail-fits; node = p }
 
   -- a line with a cause of its own
   barred : (k : ℕ) (after : Thread) (cause : Bool) → after .count ≡ th .count → usesEmpty x k ≡ false
       → takesOut th x h k ≡ cause → (cause ≡ false → ThreadFits n h after (after .line))
       → (ThreadFits n h after (after .line) → cause ≡ false)
-      → Leaves n h kind th x k (keeps th x tail h request answer after)
+      → Leaves n h kind capacity th x k (keeps th x tail h request answer after)
   barred k after cause c u e to from =
       record {
         thread =
@@ -102,7 +103,7 @@ module _ (n h : ℕ) (kind : Kind) (th : Thread) (x : Node) (tail : NodeId) (req
 
   -- line by line
   line-leaves : (l : Line) → ThreadFits n h th (standsAt (number l)) → (number l ≡ 1 → th .begun < th .count)
-      → Leaves n h kind th x (number l) (executed th x tail h request answer l)
+      → Leaves n h kind capacity th x (number l) (executed th x tail h request answer l)
   line-leaves L0 f g = kept _ _ refl refl now
   line-leaves L1 f g = let room = g refl in kept _ _ refl (simp (lt-leb (th .count) (th .begun))) (search (arith, f, nowhere))
   line-leaves L2 f g = written _ _ _ (search (x-fits, nowhere)) refl (search (arith, f))
@@ -122,7 +123,7 @@ module _ (n h : ℕ) (kind : Kind) (th : Thread) (x : Node) (tail : NodeId) (req
       (λ e. let below = leb-false h (th .served) e in search (arith, f))
       (λ after. lt-leb h (th .served) (omega (arith, after .served)))
   line-leaves L15 f g = kept _ _ refl refl (search (arith, f, x-fits))
-  line-leaves L16 f g = written _ _ _ (search x-fits) refl (search (arith, f))
+  line-leaves L16 f g = written _ _ _ (search (x-fits, answer-fits)) refl (search (arith, f))
   line-leaves L17 f g = written _ _ _ (search x-fits) refl (search (arith, f))
   line-leaves L18 f g = written _ _ _ (search x-fits) refl (search (arith, f))
   line-leaves L19 f g =
@@ -134,10 +135,10 @@ module _ (n h : ℕ) (kind : Kind) (th : Thread) (x : Node) (tail : NodeId) (req
 
   -- the same by the line's number
   pub leaves-at : (k : ℕ) → k ≤ 21 → ThreadFits n h th (standsAt k) → (k ≡ 1 → th .begun < th .count)
-      → Leaves n h kind th x k (executed th x tail h request answer (lineOf k))
+      → Leaves n h kind capacity th x k (executed th x tail h request answer (lineOf k))
   leaves-at k b =
       subst
       (λ (j : ℕ).
       ThreadFits n h th (standsAt j) → (j ≡ 1 → th .begun < th .count)
-      → Leaves n h kind th x j (executed th x tail h request answer (lineOf k)))
+      → Leaves n h kind capacity th x j (executed th x tail h request answer (lineOf k)))
       (number-of k b) (line-leaves (lineOf k))

@@ -2,6 +2,7 @@ pub mod Alike
 pub mod Computed
 pub mod EachLine
 pub mod Entering
+pub mod Judged
 pub mod Numbers
 pub mod Outcome
 pub mod Past

@@ -1,7 +1,7 @@
 -- A single step goes through exactly if its line takes no number out, uses no empty req or ret and leaves the counts in 32 bits. Assumes a state of full arrays, in range, and a thread below n.
 use Prim.Native.Nat.{ℕ, _+_, _-_, _≤_, _<_}
 use native.Mathlib.Omega.{arith}
-use mathlib.Core.Path.{_≡_, subst, ap, _∙_}
+use mathlib.Core.Path.{_≡_, refl, subst, ap, _∙_}
 use mathlib.Core.Bool.{Bool, true, false, cond, not, _&&_, and-true, and-assoc, and-eq-true-iff}
 use lib.Dec.{ltb}
 use lib.ListN.{length, take}
@@ -10,8 +10,10 @@ use borrow.Author.Tests.{ltb-true}
 use Rattle.object.specs.declared.Kind.{Kind}
 use Rattle.object.specs.declared.Request.{Request}
 use Rattle.object.specs.declared.Object.{Object}
+use Rattle.object.specs.declared.Answer.{Answer}
 use Rattle.object.specs.declared.Answer.the-variants.{Empty}
-use Rattle.object.specs.Paper.{within}
+use Rattle.object.specs.declared.Applied.{Applied}
+use Rattle.object.specs.Paper.{within, answerInRange}
 use Rattle.object.specs.Apply.{knows, heldInRange, answered, applyOf}
 use Rattle.object.proofs.Plainly.{applies-plainly}
 use Rattle.object.specs.Each.{every}
@@ -34,12 +36,16 @@ use Rattle.step.specs.Numbers.{standsAt}
 use Rattle.step.proofs.Numbers.{RunsNext, runs-next}
 use Rattle.step.proofs.EachLine.{Leaves, leaves-at, target-at}
 
--- what holds of an object, and of it after each request, holds after an entry, whether or not a req is served
-pub object-keeps : (P : Object → Type 0) (event : Event) (kind : Kind) (capacity : ℕ) (ob : Object) (req : Announced) → P ob
-    → ((request : Request) → P (applyOf kind capacity ob request .object)) → P (appliedAt event kind capacity ob req .object)
-object-keeps P event kind capacity ob req before after = by-test (sameEvent event Applies) req
+-- what holds where no request is applied, and of each request's answer and the object after it, holds after an entry, whether or not a req is served
+pub applied-keeps : (P : Answer → Object → Type 0) (event : Event) (kind : Kind) (capacity : ℕ) (ob : Object) (req : Announced) → P Empty ob
+    → ((request : Request) → P (applyOf kind capacity ob request .answer) (applyOf kind capacity ob request .object))
+    → P (appliedAt event kind capacity ob req .answer) (appliedAt event kind capacity ob req .object)
+applied-keeps P event kind capacity ob req before after = by-test (sameEvent event Applies) req
   where
-    by-test : (serves : Bool) (req : Announced) → P (cond serves (servedBy kind capacity ob req) (answered Empty ob) .object)
+    Keeps : Applied → Type 0
+    Keeps r = P (r .answer) (r .object)
+
+    by-test : (serves : Bool) (req : Announced) → Keeps (cond serves (servedBy kind capacity ob req) (answered Empty ob))
     by-test false req = before
     by-test true NoRequest = before
     by-test true (Asked request) = after request
@@ -82,20 +88,26 @@ module _ (s : State) (t : ThreadId) (shaped : Shaped s) (range : inRange s ≡ t
       known-at (s .kind) (s .requests) (s .n) (s .threads) (t .0) below (facts .rows) room zeroThread (named s t .begun - 1) zeroSlot
       (omega (arith, thread-fits .counted)) (omega (arith, facts .small, thread-fits .few, shaped .requests))
 
-  pub node-fits : NodeFits (s .kind) (s .n) (node s t)
+  pub node-fits : NodeFits (s .kind) (s .capacity) (s .n) (node s t)
   node-fits = node-at s shaped (target s t .0) target-in-range zeroNode range
 
-  pub leaves : Leaves (s .n) (s .h) (s .kind) (named s t) (node s t) (line s t) (effect s t)
+  -- the answer that a line may write into ret is in range
+  answer-in-range : answerInRange (s .capacity) (applied s t .answer) ≡ true
+  answer-in-range =
+      applied-keeps (λ answer ob. answerInRange (s .capacity) answer ≡ true) (event s t) (s .kind) (s .capacity) (s .object) (node s t .req) refl
+      (λ request. is-true _ (applies-plainly (s .kind) (s .capacity) (s .object) request (shaped .items) .in-range))
+
+  pub leaves : Leaves (s .n) (s .h) (s .kind) (s .capacity) (named s t) (node s t) (line s t) (effect s t)
   leaves =
-      leaves-at (s .n) (s .h) (s .kind) (named s t) (node s t) (s .tail) (request s t) (applied s t .answer)
+      leaves-at (s .n) (s .h) (s .kind) (s .capacity) (named s t) (node s t) (s .tail) (request s t) (applied s t .answer)
       (facts .small) (facts .tail) node-fits
-      thread-fits request-known (line s t) (runs-line .printed) standing (λ e. ltb-true _ _ (runs-line .begins e))
+      thread-fits request-known answer-in-range (line s t) (runs-line .printed) standing (λ e. ltb-true _ _ (runs-line .begins e))
 
   head-stays : headInRange (entered s t) ≡ true
   head-stays =
       and-eq-true-iff (within 1 (s .n) 16 && within 1 (s .h) 255) (heldInRange (s .kind) (s .capacity) (applied s t .object .held)) .1 (
         facts .limits,
-        object-keeps (λ ob. heldInRange (s .kind) (s .capacity) (ob .held) ≡ true) (event s t) (s .kind) (s .capacity) (s .object) (node s t .req) (facts .held)
+        applied-keeps (λ answer ob. heldInRange (s .kind) (s .capacity) (ob .held) ≡ true) (event s t) (s .kind) (s .capacity) (s .object) (node s t .req) (facts .held)
             (λ request. is-true _ (applies-plainly (s .kind) (s .capacity) (s .object) request (shaped .items) .stays (rw (facts .held) tt))),
       )
 
@@ -107,11 +119,11 @@ module _ (s : State) (t : ThreadId) (shaped : Shaped s) (range : inRange s ≡ t
       (first-set (threadInRange (s .n) (s .h)) (s .n) (s .threads) (t .0) (facts .threads) below room (effect s t .thread))
       ∙ leaves .thread
 
-  nodes-stay : every (nodeInRange (s .kind) (s .n)) (take (s .n + 1) (entered s t .nodes)) ≡ true
+  nodes-stay : every (nodeInRange (s .kind) (s .capacity) (s .n)) (take (s .n + 1) (entered s t .nodes)) ≡ true
   nodes-stay =
-      first-set (nodeInRange (s .kind) (s .n)) (s .n + 1) (s .nodes) (target s t .0) (facts .nodes)
+      first-set (nodeInRange (s .kind) (s .capacity) (s .n)) (s .n + 1) (s .nodes) (target s t .0) (facts .nodes)
       (omega (arith, target-in-range)) (omega (arith, facts .small, shaped .nodes)) (effect s t .node)
-      ∙ node-iff (s .kind) (s .n) (effect s t .node) .1 (leaves .node)
+      ∙ node-iff (s .kind) (s .capacity) (s .n) (effect s t .node) .1 (leaves .node)
 
   rows-hold : rowsInRange (s .kind) (s .requests) 0 (take (s .n) (entered s t .threads)) ≡ true
   rows-hold =

@@ -32,7 +32,7 @@ use Rattle.step.specs.declared.Stepped.{Stepped}
 use Rattle.step.specs.Entry.{zeroThread, zeroNode, zeroSlot, named, line, row, target, node, event, request, applied, effect, accesses, references, countsAfter, entered}
 use Rattle.step.specs.Step.{refused, goesThrough, outcomeOf, stepOf}
 use Rattle.step.specs.Past.{placesTo, copiesFrom, PastKept, SameCopies, Agree}
-use Rattle.step.proofs.Outcome.{object-keeps, thread-fits, target-in-range, node-fits, leaves, goes-through-exactly}
+use Rattle.step.proofs.Outcome.{applied-keeps, thread-fits, target-in-range, node-fits, leaves, goes-through-exactly}
 use Rattle.step.proofs.Alike.{same-at, same-set, same-rows, Near, near-of, same-referred, same-served, same-executed}
 
 -- what each of a list of accesses keeps of the copies, the list keeps
@@ -84,7 +84,7 @@ module _ (s : State) (t : ThreadId) where
           after-all (λ copies. drop (placesTo (s .n)) copies ≡ drop (placesTo (s .n)) (s .copies)) (s .n) (t .0) (s .copies) (accesses s t)
           (each-map (λ a q copies e. drop-set-lt (placesTo (s .n)) copies (place (located a)) _ q ∙ e) (accesses s t) near) refl;
       items =
-          object-keeps (PastHeld (s .object)) (event s t) (s .kind) (s .capacity) (s .object) (node s t .req) refl
+          applied-keeps (λ answer. PastHeld (s .object)) (event s t) (s .kind) (s .capacity) (s .object) (node s t .req) refl
           (λ request. past-held (s .kind) (s .capacity) (s .object) request (shaped .items));
     }
 

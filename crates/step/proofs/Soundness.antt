@@ -15,7 +15,7 @@ use Rattle.state.specs.Range.{inRange}
 use Rattle.state.specs.Shape.{Shaped}
 use Rattle.step.specs.Entry.{line, target, node, event, effect, accesses, entered}
 use Rattle.step.specs.Step.{refused, goesThrough, stepOf}
-use Rattle.step.proofs.Outcome.{object-keeps}
+use Rattle.step.proofs.Outcome.{applied-keeps}
 
 locations : (n t : ℕ) (copies : List ℕ) (accesses : List Access) → length (referred n t copies accesses .copies) ≡ length copies
 locations n t copies [] = refl
@@ -28,7 +28,7 @@ stays-shaped s t shaped = record {
   requests = shaped .requests;
   copies = locations (s .n) (t .0) (s .copies) (accesses s t) ∙ shaped .copies;
   items =
-      object-keeps (λ ob. length (ob .items) ≡ 64) (event s t) (s .kind) (s .capacity) (s .object) (node s t .req) (shaped .items)
+      applied-keeps (λ answer ob. length (ob .items) ≡ 64) (event s t) (s .kind) (s .capacity) (s .object) (node s t .req) (shaped .items)
       (λ request. places-stay (s .kind) (s .capacity) (s .object) request (shaped .items));
 }
 

@@ -61,7 +61,7 @@ line 1, cur null, served at h: q v1=5 u1=255.
 line 6, take: q l1=6 G17=0.
 line 6, put 4294967295: q l1=6 P17=255.
 line 6, empty req: q l1=6 e2=0.
-line 11, ret done: q l1=11 D2=0.
+line 11, ret done 1: q l1=11 D2=1.
 line 11, req of cur empty: q l1=11 e2=0.
 line 21, ret full: q l1=21 F2=0.
 line 16, queue put, capacity 4: q l1=16 p3=255 o0,1,2,3,4,

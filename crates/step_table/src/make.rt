@@ -78,7 +78,7 @@ fn req_with(kind: Kind, req: Announced, word: Word) -> Announced {
 fn ret_with(ret: RetVal, word: Word) -> RetVal {
     let field = word.field;
     match field {
-        b'D' => RetVal::Answered(Answer::Done),
+        b'D' => RetVal::Answered(Answer::Done(signed(word.value))),
         b'E' => RetVal::Answered(Answer::Empty),
         b'F' => RetVal::Answered(Answer::Full),
         b'V' => RetVal::Answered(Answer::Value(word.value as u32)),
@@ -264,7 +264,7 @@ pub(crate) fn strange(kind: Kind) -> State {
     let thread = thread(17, 99, 22, 99, 99);
     let request = object::request_of(object::least_code(kind) ^ 2, 98);
     let asked = Announced::Asked(request);
-    let node = node(asked, RetVal::Answered(Answer::Value(99)), true, 99);
+    let node = node(asked, RetVal::Answered(Answer::Done(99)), true, 99);
     let mut s = whole(kind, 3, thread, node, request);
     let mut object = s.object;
     let items = items();

@@ -50,8 +50,27 @@ counter, put in node: c p0=0;1=0;2=0;3=0;4=0;16=0;
 counter, take in node: c g0=0;1=0;2=0;3=0;4=0;16=0;
 counter, add in node: c a0=0;1=0;2=0;3=0;4=0;16=0;
 queue, empty ret: q N0=0.
-counter, ret done: c D0=0.
+queue, capacity 4, node 0, ret done: q D0=0,1,2,3,4,5,64,
+queue, capacity 4, node 0, ret done 4294967295: q D0=255.
+queue, capacity 4, ret done 0 in node: q D0=0;1=0;2=0;3=0;4=0;16=0;
+queue, capacity 4, ret done 5 in node: q D0=5;1=5;2=5;3=5;4=5;16=5;
+queue, capacity 64, ret done: q m64 D1=0,1,4,5,63,64,65,
+queue, capacity 1, ret done: q m1 o1 D2=0,1,2,
+stack, capacity 4, ret done: s D1=0,1,4,5,
+queue, ret full: q F0=0.
+queue, ret empty: q E0=0.
+queue, ret value 0: q V0=0.
+counter, ret done: c D0=0,1,2,64,
+counter, ret done 4294967295: c D0=255.
+counter, ret done in node: c D0=1;1=1;2=1;3=1;4=1;16=1;
 counter, ret full: c F0=0.
+counter, ret empty: c E0=0.
+n 2, capacity 2, node 1, ret done: Q n2 m2 @0 D1=0,1,2,3,
+n 2, capacity 2, node 1, ret full: Q n2 m2 @0 F1=0.
+n 2, capacity 2, node 2, ret done: Q n2 m2 @0 D2=2,3,
+n 2, capacity 2, node 3, past n, ret done: Q n2 m2 @0 D3=3,
+n 2, counter, node 1, ret done: C n2 @0 D1=1,
+node 16 of 16, ret done: X @0 m5 D16=0,1,5,6,
 node 16 of 16: X @0 f16=0,16,17,255,
 add in node 16 of 16: X @0 a16=0.
 queue, put at place: q P0=7;1=7;2=7;3=7;15=7;16=7;18=7;19=7;32=7;33=7;48=7;255=7;

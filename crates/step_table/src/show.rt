@@ -95,14 +95,14 @@ fn spelled(said: u64) {
         0 => text(b"put:"),
         1 => text(b"take"),
         2 => text(b"add:"),
-        4 => text(b"done"),
+        4 => text(b"done:"),
         5 => text(b"value:"),
         6 => text(b"empty"),
         7 => text(b"full"),
         _ => text(b"none"),
     }
     match mark {
-        0 | 2 | 5 => number(said & 0xFFFFFFFF),
+        0 | 2 | 4 | 5 => number(said & 0xFFFFFFFF),
         _ => {}
     }
 }

@@ -1,4 +1,4 @@
-//! Demand 3 of document 01 and what request No. 1 of document 02 adds to it, so far as they can be seen
+//! Demand 3 of document 01 and what requests No. 1 and 3 of document 02 add to it, so far as they can be seen
 //! from outside: evaluated on the records and counts that a bench returns for every cut of one schedule,
 //! on the cuts themselves, and on the file's fields alone.
 
@@ -55,6 +55,8 @@ fn check_cut(file: &Fields, after: &After) -> Result<(), String> {
     check_calls(file, records)?;
     check_times(schedule, records)?;
     check_precedence(records)?;
+    check_marks(file, records)?;
+    check_servings(file, &counts, records)?;
     check_answers(file, records)?;
     check_turns(file, &counts, records)?;
     check_costs(file, &counts, records)
@@ -132,6 +134,38 @@ fn check_precedence(records: &[RecordBytes]) -> Result<(), String> {
     Ok(())
 }
 
+/// The value goes by the mark: a count of items for done, 0 for empty, full and none.
+fn check_marks(file: &Fields, records: &[RecordBytes]) -> Result<(), String> {
+    for record in records {
+        let value = number(record, 4);
+        match record[2] {
+            0 => claim(
+                (1..=u32::from(file.capacity)).contains(&value),
+                "a put that is done counts from 1 to the capacity",
+            )?,
+            1 => {}
+            2 | 3 | 255 => claim(value == 0, "empty, full and none have value 0")?,
+            _ => claim(false, "byte 2 is 0 to 3 or 255")?,
+        }
+    }
+    Ok(())
+}
+
+/// A call that is served has a thread of the file and a turn begun; one that isn't has neither.
+fn check_servings(file: &Fields, counts: &Counts, records: &[RecordBytes]) -> Result<(), String> {
+    for record in records {
+        if record[2] == 255 {
+            claim(record[3] == 255, "server 255 while not applied")?;
+            claim(turn(record) == 65_535, "turn 65535 while not applied")?;
+            claim(!returned(record), "a returned call is served")?;
+        } else {
+            claim(record[3] < file.n, "the server is a thread of the file")?;
+            claim(turn(record) < counts.turns, "the turn is one begun")?;
+        }
+    }
+    Ok(())
+}
+
 /// The applied requests are the first ones in Swap order, answered as by the plain object.
 fn check_answers(file: &Fields, records: &[RecordBytes]) -> Result<(), String> {
     let mut object = Plain::new(file);
@@ -142,19 +176,11 @@ fn check_answers(file: &Fields, records: &[RecordBytes]) -> Result<(), String> {
             (record[2], number(record, 4)) == answer,
             "the answer is the plain object's",
         )?;
-        claim(record[3] < file.n, "the server is a thread of the file")?;
     }
-    for record in &records[a..] {
-        claim(
-            record[2] == 255,
-            "no request is applied before an earlier one in Swap order",
-        )?;
-        claim(number(record, 4) == 0, "value 0 while not applied")?;
-        claim(record[3] == 255, "server 255 while not applied")?;
-        claim(turn(record) == 65_535, "turn 65535 while not applied")?;
-        claim(!returned(record), "a returned call is served")?;
-    }
-    Ok(())
+    claim(
+        records[a..].iter().all(|record| record[2] == 255),
+        "no request is applied before an earlier one in Swap order",
+    )
 }
 
 /// Turns follow one another in Swap order; each has one server, which serves itself first, and
@@ -456,7 +482,7 @@ fn request<'a>(file: &Fields<'a>, record: &RecordBytes) -> &'a [u8] {
     &file.requests[5 * number..5 * number + 5]
 }
 
-/// The plain object of document 01: a list of values or a sum.
+/// The plain object of document 01, which counts by request No. 3: a list of values or a sum.
 struct Plain {
     queue: bool,
     capacity: usize,
@@ -474,13 +500,13 @@ impl Plain {
         }
     }
 
-    /// Mark and value of the answer.
+    /// Mark and value of the answer; of done, how many values the list has then.
     fn answer(&mut self, request: &[u8]) -> (u8, u32) {
         let value = number(request, 1);
         match request[0] {
             0 if self.list.len() < self.capacity => {
                 self.list.push(value);
-                (0, 0)
+                (0, self.list.len() as u32)
             }
             0 => (3, 0),
             1 if self.list.is_empty() => (2, 0),

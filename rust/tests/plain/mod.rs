@@ -1,4 +1,4 @@
-//! An independent implementation of document 01, with requests No. 1 and 2 of document 02, and of Algorithm 1
+//! An independent implementation of document 01, with requests No. 1 to 3 of document 02, and of Algorithm 1
 //! in source 004 (CC-Synch), written from these papers, with expected listings and pages to try it on, and without the code that it is compared with.
 
 // Each user of this module needs only a part of it.
@@ -372,14 +372,14 @@ struct Object {
 }
 
 impl Object {
-    /// Applies a request: the mark and the value of the answer.
+    /// Applies a request: the mark and the value of the answer; of done, the count of items held after it.
     fn apply(&mut self, request: Request) -> (u8, u32) {
         match request {
             Request::Put(_) if self.held == self.capacity => (FULL, 0),
             Request::Put(value) => {
                 self.ring[(self.first + self.held) % 64] = value;
                 self.held += 1;
-                (DONE, 0)
+                (DONE, self.held as u32)
             }
             Request::Take if self.held == 0 => (EMPTY, 0),
             Request::Take => {
@@ -650,7 +650,7 @@ fn listing(bench: &Bench, counts: &Counts, records: &[u8]) -> String {
 fn line_of_record(text: &mut String, order: usize, record: &[u8]) {
     let (thread, request, server) = (record[0], record[1], record[3]);
     let word = mark_word(record);
-    let value = or_hyphen(record[2] == VALUE, number_at(record, 4));
+    let value = or_hyphen(has_value(record), number_at(record, 4));
     let served = record[2] != NONE;
     let server = or_hyphen(served, server.into());
     let turn = or_hyphen(served, turn_of(record));
@@ -674,6 +674,11 @@ fn mark_word(record: &[u8]) -> &'static str {
         FULL => "full",
         _ => "none",
     }
+}
+
+/// Whether a number stands in the value's place: a value, or the count of a done put.
+fn has_value(record: &[u8]) -> bool {
+    matches!(record[2], DONE | VALUE)
 }
 
 fn state_word(record: &[u8]) -> &'static str {
@@ -724,7 +729,7 @@ fn row_of_record(order: usize, record: &[u8]) -> String {
     let (thread, request) = (record[0], record[1]);
     let word = mark_word(record);
     let served = record[2] != NONE;
-    let value = column(10, record[2] == VALUE, number_at(record, 4));
+    let value = column(10, has_value(record), number_at(record, 4));
     let server = column(2, served, record[3].into());
     let turn = column(5, served, turn_of(record));
     let remote = number_at(record, 8);

@@ -25,7 +25,7 @@ returns-5 : tie.Need-returns-5
 returns-5 c =
     let r = c .match .rest in
     let past : 4 ≤ c .before .args .mark = omega (arith, r .0 .0 .0 .1, r .0 .0 .1, r .0 .1, r .1) in
-    sym (List·getD-eq-default (Answered Done ∷ Answered (Value (c .before .args .value)) ∷ Answered Empty ∷ Answered Full ∷ []) NoAnswer past)
+    sym (List·getD-eq-default (Answered (Done (c .before .args .value)) ∷ Answered (Value (c .before .args .value)) ∷ Answered Empty ∷ Answered Full ∷ []) NoAnswer past)
 
 pub ret-of-spec : {M : Type 1} → statement M
 ret-of-spec = tie.close (tie.spec returns returns-2 returns-3 returns-4 returns-5)

@@ -16,6 +16,9 @@ element-write-after c = search needs
 add-after : tie.Need-add-after
 add-after c = search needs
 
+cast-count : tie.Need-cast-count
+cast-count c = search needs
+
 answered-requires : tie.Need-answered-requires
 answered-requires c κs = search needs
 
@@ -36,6 +39,7 @@ put-spec =
     mul-after
     element-write-after
     add-after
+    cast-count
     answered-requires
     returns
     answered-requires-2

@@ -10,10 +10,11 @@ use Rattle.state.proofs.nodes_in_range.Statement.{statement}
 use Rattle.state.proofs.nodes_in_range.Tie as tie
 
 abbrev Inv-loop : tie.InvT-loop
-Inv-loop kind n nodes count i₀ i = Left (everyWalk (nodeInRange kind n)) nodes count (every (nodeInRange kind n) (take (n + 1) nodes)) i
+Inv-loop kind capacity n nodes count i₀ i =
+    Left (everyWalk (nodeInRange kind capacity n)) nodes count (every (nodeInRange kind capacity n) (take (n + 1) nodes)) i
 
 abbrev μ-loop : tie.MeasureT-loop
-μ-loop kind n nodes count i₀ i = count - i
+μ-loop kind capacity n nodes count i₀ i = count - i
 
 add-count : tie.Need-add-count Inv-loop μ-loop
 add-count c = search needs
