@@ -1,8 +1,8 @@
--- A choice by two numbers, or by a test, and two tests of which neither passes. Assumes nothing.
+-- A choice by two numbers or by a test, what a test takes, and two tests of which neither passes. Assumes nothing.
 use Prim.Native.Nat.{ℕ, _≤_, _<_}
 use native.Mathlib.Decide.{ℕ-discrete}
 use mathlib.Core.Path.{_≡_, refl, sym}
-use mathlib.Core.Bool.{Bool, true, false, _||_, false≢true}
+use mathlib.Core.Bool.{Bool, true, false, cond, _||_, false≢true}
 use lib.Dec.{ltb}
 use borrow.Author.Tests.{ltb-true, ltb-false}
 
@@ -25,6 +25,11 @@ by-order {P} j k under over = go (ltb j k) refl
 pub by-test : {P : Type 0} (b : Bool) → (b ≡ true → P) → (b ≡ false → P) → P
 by-test true on off = on refl
 by-test false on off = off refl
+
+-- what holds of both of two values holds of the one that a test takes
+pub either : {A : Type 0} (P : A → Type 0) {a b : A} (t : Bool) → (t ≡ true → P a) → (t ≡ false → P b) → P (cond t a b)
+either P true on off = on refl
+either P false on off = off refl
 
 -- two tests of which neither passes
 pub both-fail : (a b : Bool) → (a || b) ≡ false → (a ≡ false) × (b ≡ false)

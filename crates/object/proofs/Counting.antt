@@ -1,7 +1,7 @@
 -- A done count is in range exactly if some put is answered with it. Assumes nothing.
 use Prim.Native.Nat.{ℕ, _+_, _-_, _≤_, _<_}
 use native.Mathlib.Omega.{arith}
-use mathlib.Core.Path.{_≡_}
+use mathlib.Core.Path.{_≡_, refl}
 use mathlib.Core.Logic.{_↔_}
 use mathlib.Core.Bool.{true}
 use lib.Dec.{ltb}
@@ -30,6 +30,13 @@ module _ (capacity : ℕ) where
   count-by-mark (Value v) e m = absurd (omega arith)
   count-by-mark Empty e m = absurd (omega arith)
   count-by-mark Full e m = absurd (omega arith)
+
+  -- any other answer is in range
+  pub others-in-range : (a : Answer) → (answerMark a ≡ 0 → ⊥) → answerInRange capacity a ≡ true
+  others-in-range (Done count) other = absurd (other refl)
+  others-in-range (Value v) other = refl
+  others-in-range Empty other = refl
+  others-in-range Full other = refl
 
   -- a put that is done with a count: what is held before it, and its value
   pub record DonePut (count : ℕ) : Type 0 where

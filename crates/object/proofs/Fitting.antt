@@ -2,7 +2,7 @@
 use Prim.Native.Nat.{ℕ, _-_, _<_, _^_}
 use native.Mathlib.Omega.{arith}
 use mathlib.Core.Path.{_≡_, refl}
-use mathlib.Core.Bool.{Bool, true, false, cond}
+use mathlib.Core.Bool.{true}
 use mathlib.Core.List.{List, [], _∷_, _++_}
 use lib.ListN.{length, getD}
 use lib.Dec.{ltb, eqb}
@@ -15,6 +15,7 @@ use Rattle.object.specs.declared.Answer.the-variants.{Done, Value, Empty
 use Rattle.object.specs.Each.{Each}
 use Rattle.object.specs.Paper.{requestValue, answerValue, answerInRange}
 use Rattle.object.specs.Plain.{Plain, Response, fresh, holding, respond, plainStep, plainPut, plainTakeFirst, plainTakeLast, plainAdd, answersFrom}
+use Rattle.object.proofs.Choice.{either}
 use Rattle.object.proofs.Counting.{put-in-range}
 use Rattle.object.proofs.Each.{each-append, each-take, each-drop, each-getD-or}
 use Rattle.object.proofs.Within.{within-range}
@@ -37,10 +38,6 @@ record Responds (capacity : ℕ) (r : Response) : Type 0 where
   answer : AnswerFits capacity (r .answer)
   after : HoldsFitting (r .after)
 
-either : {capacity : ℕ} {r r′ : Response} (t : Bool) → (t ≡ true → Responds capacity r) → Responds capacity r′ → Responds capacity (cond t r r′)
-either true f g = f refl
-either false f g = g
-
 module _ (capacity : ℕ) (small : Fits capacity) (p : Plain) (h : HoldsFitting p) where
   value-fits : (i : ℕ) → Fits (getD (p .values) i 0)
   value-fits i = each-getD-or Fits (p .values) i 0 (h .values) (omega arith)
@@ -56,25 +53,25 @@ module _ (capacity : ℕ) (small : Fits capacity) (p : Plain) (h : HoldsFitting 
 
   put-fits : (v : ℕ) → Fits v → Responds capacity (plainPut capacity v p)
   put-fits v f =
-      either (ltb (length (p .values)) capacity)
+      either (Responds capacity) (ltb (length (p .values)) capacity)
       (λ t.
       let count = length (p .values ++ v ∷ []) in
       let good : answerInRange capacity (Done count) ≡ true = rw t at (put-in-range capacity v p) in
       let fits : Fits count = omega (arith, within-range _ count capacity .0 good .1) in
       changed (Done count) _ (record { value = fits; in-range = good })
       (each-append Fits (p .values) (v ∷ []) (h .values) (f, tt)))
-      (record { answer = record { value = omega arith; in-range = refl }; after = h })
+      (λ t. record { answer = record { value = omega arith; in-range = refl }; after = h })
 
   first-fits : Responds capacity (plainTakeFirst p)
   first-fits =
-      either (eqb (length (p .values)) 0) (λ t. empty-fits)
-      (changed (Value _) _ (value-given _ (value-fits 0)) (each-drop Fits 1 (p .values) (h .values)))
+      either (Responds capacity) (eqb (length (p .values)) 0) (λ t. empty-fits)
+      (λ t. changed (Value _) _ (value-given _ (value-fits 0)) (each-drop Fits 1 (p .values) (h .values)))
 
   last-fits : Responds capacity (plainTakeLast p)
   last-fits =
       let last = length (p .values) - 1 in
-      either (eqb (length (p .values)) 0) (λ t. empty-fits)
-      (changed (Value _) _ (value-given _ (value-fits last)) (each-take Fits last (p .values) (h .values)))
+      either (Responds capacity) (eqb (length (p .values)) 0) (λ t. empty-fits)
+      (λ t. changed (Value _) _ (value-given _ (value-fits last)) (each-take Fits last (p .values) (h .values)))
 
   add-fits : (v : ℕ) → Responds capacity (plainAdd v p)
   add-fits v = record { answer = value-given _ (h .sum); after = record { values = h .values; sum = omega arith } }

@@ -1,5 +1,6 @@
 pub mod Choice
 pub mod Counting
+pub mod Depth
 pub mod Each
 pub mod Fitting
 pub mod Inverse

@@ -1,20 +1,32 @@
 -- What holds of each node in use of a state in range; so a done count outside 1 to the capacity in the ret of one puts a state out of range, and so does any
--- done where the object is the counter. Assumes nothing.
+-- done where the object is the counter, and no other answer does. Assumes nothing.
 use Prim.Native.Nat.{ℕ, _+_, _≤_}
 use native.Mathlib.Omega.{arith}
 use mathlib.Core.Path.{_≡_}
 use mathlib.Core.Bool.{true, false, not-eq-not, and-eq-true-iff}
 use lib.ListN.{getD}
+use Rattle.object.specs.declared.Kind.{Kind}
 use Rattle.object.specs.declared.Kind.the-variants.{Counter}
+use Rattle.object.specs.declared.Answer.{Answer}
 use Rattle.object.specs.declared.Answer.the-variants.{Done}
+use Rattle.object.specs.Paper.{answerMark}
+use Rattle.object.proofs.Counting.{others-in-range}
 use Rattle.object.proofs.Within.{within-range}
 use Rattle.machine.specs.declared.RetVal.the-variants.{Answered}
 use Rattle.machine.specs.declared.Node.{Node}
+use Rattle.machine.specs.Effect.{withRet}
 use Rattle.state.specs.declared.State.{State}
 use Rattle.state.specs.Range.{nodeInRange, inRange}
 use Rattle.state.specs.Shape.{Shaped}
 use Rattle.state.proofs.Kept.{first-at}
 use Rattle.state.proofs.RangeFacts.{NodeFits, node-iff, state-fits}
+
+-- any answer but done may stand in the ret of a node in range, whatever the object
+pub others-free : (kind : Kind) (capacity n : ℕ) (x : Node) (answer : Answer) → (answerMark answer ≡ 0 → ⊥) → nodeInRange kind capacity n x ≡ true
+    → nodeInRange kind capacity n (withRet x answer) ≡ true
+others-free kind capacity n x answer other e =
+    let facts = node-iff kind capacity n x .0 e in
+    node-iff kind capacity n (withRet x answer) .1 (search (facts, others-in-range capacity answer other))
 
 module _ (s : State) (shaped : Shaped s) (m : ℕ) (used : m ≤ s .n) (none : Node) where
   pub node-at : inRange s ≡ true → NodeFits (s .kind) (s .capacity) (s .n) (getD (s .nodes) m none)

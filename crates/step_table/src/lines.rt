@@ -73,6 +73,7 @@ line 16, stack put, capacity 4: s l1=16 p3=0 o0,1,2,3,4,
 line 16, stack take, capacity 4: s l1=16 g3=0 o0,1,2,3,4,
 line 16, stack take, capacity 64: s l1=16 g3=0 m64 o4,62,63,64,
 line 16, empty ret: q l1=16 N3=0.
+line 16, served 0: q l1=16 v1=0.
 line 16, add 0 to 77: c l1=16 a3=0.
 line 16, add 5 to 77: c l1=16 a3=5.
 line 16, add 4294967219 to 77: c l1=16 a3=179.
