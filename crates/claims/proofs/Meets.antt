@@ -7,9 +7,8 @@ use lib.Dec.{eqb, ltb}
 use borrow.Author.Tests.{ne-eqb, le-leb, lt-leb}
 use Rattle.object.specs.declared.Request.{Request}
 use Rattle.object.specs.declared.Answer.{Answer}
-use Rattle.object.proofs.Choice.{by-equal, by-order}
+use Rattle.object.proofs.Choice.{by-equal, by-order, either}
 use Rattle.machine.specs.declared.Node.{Node}
-use Rattle.machine.specs.declared.Event.{Event}
 use Rattle.machine.specs.declared.Event.the-variants.{Blank, CallBegins, Swaps, TurnBegins, Applies, TurnEnds, Returns, Spins, Other}
 use Rattle.machine.specs.Lines.{Line, rowOf, eventIn, eventNumber, sameEvent, isNull, L0, L1, L2, L3, L4, L5, L6, L7, L8, L9, L10, L11, L12, L13, L14, L15, L16, L17, L18, L19, L20, L21}
 use Rattle.machine.proofs.Events.{by-row}
@@ -83,10 +82,6 @@ pub record Numbers (k e : ℕ) : Type 0 where
   pub begin : k ≡ 1 → e ≡ eventNumber CallBegins
   pub blank : e ≡ eventNumber Blank → k ≡ 0
 
-by-wait : (P : Event → Type 0) (waits : Bool) → P Spins → P Other → P (cond waits Spins Other)
-by-wait P true p q = p
-by-wait P false p q = q
-
 pub numbers : (l : Line) (x : Node) → Numbers (number l) (eventNumber (eventIn (rowOf l .event) x))
 numbers L0 x = omega arith
 numbers L1 x = omega arith
@@ -97,7 +92,7 @@ numbers L5 x = omega arith
 numbers L6 x = omega arith
 numbers L7 x = omega arith
 numbers L8 x = omega arith
-numbers L9 x = by-wait (λ e. Numbers 9 (eventNumber e)) (x .wait) (omega arith) (omega arith)
+numbers L9 x = either (λ e. Numbers 9 (eventNumber e)) (x .wait) (λ t. omega arith) (λ t. omega arith)
 numbers L10 x = omega arith
 numbers L11 x = omega arith
 numbers L12 x = omega arith
@@ -129,10 +124,6 @@ module _ (h : ℕ) (v : View) (t : ℕ) (request : Request) (answer : Answer) wh
   abbrev Gone : Line → ℕ → Type 0
   Gone l j = Goes (eventNumber (eventIn (rowOf l .event) (v .node (goal v t l)))) (phaseOf (standsAt (number l))) (v .thread t .begun) (phaseOf j) (does v t l h request answer .thread .begun)
 
-  either : (b : Bool) (l : Line) (j j′ : ℕ) → Gone l j → Gone l j′ → Gone l (cond b j j′)
-  either true l j j′ p q = p
-  either false l j j′ p q = q
-
   -- line 9 spins, or goes on
   spin-goes : (waits : Bool) (b : ℕ) → Goes (eventNumber (cond waits Spins Other)) waiting b (phaseOf (cond waits 9 10)) b
   spin-goes true b = other (omega arith) (omega arith) refl refl
@@ -149,12 +140,14 @@ module _ (h : ℕ) (v : View) (t : ℕ) (request : Request) (answer : Answer) wh
   line-goes L7 e = other (omega arith) (omega arith) refl refl
   line-goes L8 e = other (omega arith) (omega arith) refl refl
   line-goes L9 e = spin-goes (v .node (v .thread t .cur .0) .wait) (v .thread t .begun)
-  line-goes L10 e = either (v .node (v .thread t .cur .0) .completed) L10 11 12 (other (omega arith) (omega arith) refl refl) (other (omega arith) (omega arith) refl refl)
+  line-goes L10 e =
+      either (Gone L10) (v .node (v .thread t .cur .0) .completed) (λ b. other (omega arith) (omega arith) refl refl)
+      (λ b. other (omega arith) (omega arith) refl refl)
   line-goes L11 e = helped refl refl refl refl
   line-goes L12 e = turns refl refl refl refl
   line-goes L13 e =
-      either (not (isNull (v .node (v .thread t .tmp .0) .next)) && ltb (v .thread t .served) h) L13 14 20 (other (omega arith) (omega arith) refl refl)
-      (other (omega arith) (omega arith) refl refl)
+      either (Gone L13) (not (isNull (v .node (v .thread t .tmp .0) .next)) && ltb (v .thread t .served) h)
+      (λ b. other (omega arith) (omega arith) refl refl) (λ b. other (omega arith) (omega arith) refl refl)
   line-goes L14 e = other (omega arith) (omega arith) refl refl
   line-goes L15 e = other (omega arith) (omega arith) refl refl
   line-goes L16 e = applies refl refl refl refl

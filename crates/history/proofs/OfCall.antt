@@ -2,7 +2,7 @@
 use Prim.Native.Nat.{ℕ, _+_}
 use native.Mathlib.Nat.{zero-add}
 use mathlib.Core.Path.{_≡_, refl, sym, ap₂, subst, _∙_}
-use mathlib.Core.Bool.{Bool, true, false, cond, not, _&&_, _||_, false≢true, and-false, and-eq-true-iff}
+use mathlib.Core.Bool.{true, false, cond, not, _&&_, _||_, false≢true, not-eq-not, and-false, and-eq-true-iff}
 use mathlib.Core.List.{List, _∷_}
 use lib.ListN.{length}
 use lib.Dec.{eqb}
@@ -25,13 +25,8 @@ same-told c c′ e =
     let p = and-eq-true-iff (eqb (c .thread .0) (c′ .thread .0)) (eqb (c .request) (c′ .request)) .0 e in
     ap₂ call (eqb-true _ _ (p .0)) (eqb-true _ _ (p .1))
 
--- a test that cannot pass fails
-fails : (b : Bool) → (b ≡ true → ⊥) → b ≡ false
-fails true f = absurd (f refl)
-fails false f = refl
-
 pub not-same : (c c′ : Call) → (c ≡ c′ → ⊥) → same c c′ ≡ false
-not-same c c′ f = fails (same c c′) (λ e. f (same-told c c′ e))
+not-same c c′ f = not-eq-not {b = false} .0 (λ e. f (same-told c c′ e))
 
 module _ (e : Entry) (past : List Entry) where
   pub blank-of-none : (c : Call) → Is Blank e → isOf c e past ≡ false

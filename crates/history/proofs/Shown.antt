@@ -3,11 +3,12 @@
 use Prim.Native.Nat.{ℕ, zero, suc, _≤_, _<_}
 use native.Mathlib.Omega.{arith}
 use mathlib.Core.Path.{_≡_, refl, sym, _∙_, ap}
-use mathlib.Core.Bool.{Bool, true, false, cond}
+use mathlib.Core.Bool.{false}
 use mathlib.Core.List.{List, [], _∷_, map}
 use lib.ListN.{length, getD, length-map}
 use lib.Seq.{length-take-le, getD-take}
 use Rattle.object.specs.Each.{Each}
+use Rattle.object.proofs.Choice.{either}
 use Rattle.history.specs.Entries.{Entry}
 use Rattle.history.specs.Terms.{Call, Serving, Shown, same, swapOrder, servings, shown, unshown, shownOf, recordOf, recordsOf}
 use Rattle.history.specs.Method.{Seen, Positions}
@@ -28,11 +29,7 @@ shown-first (w ∷ l) (suc i) x k f = rw (f 0 (omega arith)) (shown-first l i x 
 -- what holds of each serving as it is shown, and of none, holds of what a call shows
 pub shown-each : (P : Shown → Type 0) → P unshown → (c : Call) (l : List Serving) → Each (λ (w : Serving). P (shown w)) l → P (shownOf c l)
 shown-each P none c [] each = none
-shown-each P none c (w ∷ l) each = by-test (same c (w .call)) (shown-each P none c l (each .1))
-  where
-    by-test : (b : Bool) → P (shownOf c l) → P (cond b (shown w) (shownOf c l))
-    by-test true later = each .0
-    by-test false later = later
+shown-each P none c (w ∷ l) each = either P (same c (w .call)) (λ t. each .0) (λ t. shown-each P none c l (each .1))
 
 -- and a call with no serving shows none
 pub shown-not : (l : List Serving) (c d : Call)

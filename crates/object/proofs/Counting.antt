@@ -1,4 +1,4 @@
--- A done count is in range exactly if some put is answered with it. Assumes nothing.
+-- Answers in range: every answer to a put is, any answer but done is, and a done count exactly if some put is answered with it. Assumes nothing.
 use Prim.Native.Nat.{ℕ, _+_, _-_, _≤_, _<_}
 use native.Mathlib.Omega.{arith}
 use mathlib.Core.Path.{_≡_, refl}

@@ -21,7 +21,7 @@ use Rattle.object.specs.Depth.{DepthsFrom}
 use Rattle.object.proofs.Choice.{either}
 
 module _ (capacity : ℕ) where
-  -- a response, with so many items held before it: it leaves the capacity, and its answer goes before whatever follows
+  -- a response, with so many items held before it: what is held then is within the capacity, and its answer may stand before whatever follows
   record Books (held : ℕ) (r : Response) : Type 0 where
     fits : length (r .after .values) ≤ capacity
     next : (answers : List Answer) → DepthsFrom capacity (length (r .after .values)) answers → DepthsFrom capacity held (r .answer ∷ answers)

@@ -22,6 +22,7 @@ use Rattle.object.specs.declared.Applied.{Applied}
 use Rattle.object.specs.Paper.{leastCapacity, mostCapacity, capacityAllowed, answerInRange}
 use Rattle.object.specs.Plain.{Response, respond, holding, plainStep, plainPut, plainTakeFirst, plainTakeLast, plainAdd}
 use Rattle.object.specs.Apply.{contents, knows, objectInRange, heldInRange, answered, refusedWith, stored, movedDown, putOf, takeFirstOf, takeLastOf, addOf, appliedKnown, applyOf, TellsHeld, AppliesPlainly}
+use Rattle.object.proofs.Choice.{by-test}
 use Rattle.object.proofs.Counting.{more-fits}
 
 -- past the items that it holds, an object has the places of ob
@@ -41,12 +42,6 @@ record Meets (capacity : ℕ) (ob : Object) (p : Response) (r : Applied) : Type 
   held : r .object .held ≤ capacity
   places : length (r .object .items) ≡ 64
   past : PastHeld ob (r .object)
-
--- a test that both sides make
-either : {capacity : ℕ} {ob : Object} {p p′ : Response} {r r′ : Applied} (t : Bool)
-    → (t ≡ true → Meets capacity ob p r) → (t ≡ false → Meets capacity ob p′ r′) → Meets capacity ob (cond t p p′) (cond t r r′)
-either true f g = f refl
-either false f g = g refl
 
 -- on a storage of 64 places, within the capacity, each request that is known meets the plain object
 module _ (capacity : ℕ) (ob : Object) (long : length (ob .items) ≡ 64) (room : capacity ≤ 64) (fits : ob .held ≤ capacity) where
@@ -70,12 +65,12 @@ module _ (capacity : ℕ) (ob : Object) (long : length (ob .items) ≡ 64) (room
 
   put-meets : (v : ℕ) → Meets capacity ob (plainPut capacity v (contents ob)) (putOf capacity v ob)
   put-meets v =
-      rw (length-append, count) (either (ltb (ob .held) capacity)
+      rw (length-append, count) (by-test (ltb (ob .held) capacity)
       (λ t.
       let h : ob .held < capacity = ltb-true _ _ t in
-      changed (Done (ob .held + 1)) (more-fits capacity (ob .held) h, refl) (sym (rw add-one (take-suc-set (ob .items) (ob .held) v (omega arith)))) (omega arith)
-      (simp length-set long) (drop-set-lt (ob .held + 1) (ob .items) (ob .held) v (omega arith)))
-      (λ t. unchanged Full (refl, tt)))
+      rw t (changed (Done (ob .held + 1)) (more-fits capacity (ob .held) h, refl) (sym (rw add-one (take-suc-set (ob .items) (ob .held) v (omega arith)))) (omega arith)
+      (simp length-set long) (drop-set-lt (ob .held + 1) (ob .items) (ob .held) v (omega arith))))
+      (λ t. rw t (unchanged Full (refl, tt))))
 
   -- the value at place i is given up
   take-meets : (i : ℕ) (values items : List ℕ)
@@ -86,11 +81,11 @@ module _ (capacity : ℕ) (ob : Object) (long : length (ob .items) ≡ 64) (room
       (cond (eqb (ob .held) 0) (answered Empty ob)
       (answered (Value (getD (ob .items) i 0)) (stored ob items (ob .held - 1))))
   take-meets i values items f =
-      either (eqb (ob .held) 0) (λ t. unchanged Empty (refl, tt))
+      by-test (eqb (ob .held) 0) (λ t. rw t (unchanged Empty (refl, tt)))
       (λ t.
       let g = f (omega (arith, eqb-false (ob .held) 0 t)) in
       let below = g .0 in
-      rw getD-take (changed (Value (getD (ob .items) i 0)) (refl, tt) (g .1) (omega arith) (g .2) (g .3)))
+      rw (t, getD-take) (changed (Value (getD (ob .items) i 0)) (refl, tt) (g .1) (omega arith) (g .2) (g .3)))
 
   take-first-meets : Meets capacity ob (plainTakeFirst (contents ob)) (takeFirstOf ob)
   take-first-meets =

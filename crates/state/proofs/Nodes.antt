@@ -1,5 +1,5 @@
 -- What holds of each node in use of a state in range; so a done count outside 1 to the capacity in the ret of one puts a state out of range, and so does any
--- done where the object is the counter, and no other answer does. Assumes nothing.
+-- done where the object is the counter. Any other answer leaves a node in range. Assumes nothing.
 use Prim.Native.Nat.{ℕ, _+_, _≤_}
 use native.Mathlib.Omega.{arith}
 use mathlib.Core.Path.{_≡_}

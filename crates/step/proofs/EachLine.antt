@@ -2,7 +2,7 @@
 use Prim.Native.Nat.{ℕ, _+_, _≤_, _<_}
 use native.Mathlib.Omega.{arith}
 use mathlib.Core.Path.{_≡_, refl, subst}
-use mathlib.Core.Bool.{Bool, true, false, cond, not, _&&_, and-true, or-false, and-eq-true-iff}
+use mathlib.Core.Bool.{Bool, true, false, not, _&&_, and-true, or-false, and-eq-true-iff}
 use mathlib.Core.List.{_∷_}
 use lib.Dec.{leb, ltb}
 use borrow.Author.Tests.{leb-true, leb-false, lt-leb, le-ltb, ne-eqb}
@@ -11,6 +11,7 @@ use Rattle.object.specs.declared.Request.{Request}
 use Rattle.object.specs.declared.Answer.{Answer}
 use Rattle.object.specs.Paper.{within, answerInRange}
 use Rattle.object.specs.Apply.{knows}
+use Rattle.object.proofs.Choice.{either}
 use Rattle.machine.specs.declared.NodeId.{NodeId}
 use Rattle.machine.specs.declared.Node.{Node}
 use Rattle.machine.specs.declared.Thread.{Thread}
@@ -95,11 +96,9 @@ module _ (n h : ℕ) (kind : Kind) (capacity : ℕ) (th : Thread) (x : Node) (ta
         node = x-fits;
       }
 
-  -- a line that goes on to one of two
-  either-line : (test : Bool) (i j : ℕ) → ThreadFits n h (goes th i) i → ThreadFits n h (goes th j) j
-      → ThreadFits n h (goes th (cond test i j)) (cond test i j)
-  either-line true i j e f = e
-  either-line false i j e f = f
+  -- what a thread is at the line that it goes on to
+  abbrev AtLine : ℕ → Type 0
+  AtLine line = ThreadFits n h (goes th line) line
 
   -- line by line
   line-leaves : (l : Line) → ThreadFits n h th (standsAt (number l)) → (number l ≡ 1 → th .begun < th .count)
@@ -113,11 +112,11 @@ module _ (n h : ℕ) (kind : Kind) (capacity : ℕ) (th : Thread) (x : Node) (ta
   line-leaves L6 f g = written _ _ _ (search (x-fits, known (f .begun))) refl (search (arith, f))
   line-leaves L7 f g = written _ _ _ (search (x-fits, there (f .own))) refl (search (arith, f))
   line-leaves L8 f g = kept _ _ refl refl (search (arith, f))
-  line-leaves L9 f g = kept _ _ refl refl (either-line (x .wait) 9 10 (search (arith, f)) (search (arith, f)))
-  line-leaves L10 f g = kept _ _ refl refl (either-line (x .completed) 11 12 (search (arith, f)) (search (arith, f)))
+  line-leaves L9 f g = kept _ _ refl refl (either AtLine (x .wait) (λ t. search (arith, f)) (λ t. search (arith, f)))
+  line-leaves L10 f g = kept _ _ refl refl (either AtLine (x .completed) (λ t. search (arith, f)) (λ t. search (arith, f)))
   line-leaves L11 f g = kept _ _ refl refl (search (arith, f, there))
   line-leaves L12 f g = kept _ _ refl refl (search (arith, f))
-  line-leaves L13 f g = kept _ _ refl refl (either-line (not (isNull (x .next)) && ltb (th .served) h) 14 20 (search (arith, f)) (search (arith, f)))
+  line-leaves L13 f g = kept _ _ refl refl (either AtLine (not (isNull (x .next)) && ltb (th .served) h) (λ t. search (arith, f)) (λ t. search (arith, f)))
   line-leaves L14 f g =
       barred 14 (withServed th 15 (th .served + 1)) (leb h (th .served)) refl refl (simp or-false)
       (λ e. let below = leb-false h (th .served) e in search (arith, f))
