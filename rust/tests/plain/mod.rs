@@ -1,5 +1,6 @@
 //! An independent implementation of document 01, with requests No. 1 to 3 of document 02, and of Algorithm 1
-//! in source 004 (CC-Synch), written from these papers, with expected listings and pages to try it on, and without the code that it is compared with.
+//! in source 004 (CC-Synch), written from these papers, with expected listings and pages to try it on, and, but for the count of request
+//! No. 3, without the code that it is compared with.
 
 // Each user of this module needs only a part of it.
 #![allow(dead_code)]
