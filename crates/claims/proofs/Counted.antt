@@ -11,7 +11,7 @@ use Rattle.machine.specs.declared.NodeId.{NodeId}
 use Rattle.machine.specs.declared.ThreadId.{ThreadId}
 use Rattle.machine.specs.declared.SharedAccess.{SharedAccess}
 use Rattle.machine.specs.declared.SharedAccess.the-variants.{NoAccess, Read, Write, Swap}
-use Rattle.machine.specs.Lines.{Access, accessTo}
+use Rattle.machine.specs.Accesses.{Access, accessTo}
 use Rattle.copies.specs.Remote.{located, hasCopyOf, copiesAfter, referred}
 use Rattle.state.specs.declared.Counts.{Counts}
 use Rattle.state.specs.declared.State.{State}

@@ -25,10 +25,11 @@ use Rattle.machine.specs.declared.RetVal.{RetVal}
 use Rattle.machine.specs.declared.RetVal.the-variants.{NoAnswer, Answered}
 use Rattle.machine.specs.declared.Thread.{Thread}
 use Rattle.machine.specs.declared.Event.the-variants.{Blank, CallBegins, Swaps, Applies, Returns}
-use Rattle.machine.specs.Lines.{Line, lineOf, lineRun, eventNumber, sameEvent}
-use Rattle.machine.specs.Effect.{takesOut}
-use Rattle.machine.proofs.Events.{by-row}
+use Rattle.machine.specs.Events.{eventNumber, sameEvent}
 use Rattle.machine.specs.Sizes.{mostLocations}
+use Rattle.cc_lines.specs.Lines.{Line, lineOf, lineRun}
+use Rattle.cc_lines.proofs.Events.{by-row}
+use Rattle.cc_synch.specs.Effect.{takesOut}
 use Rattle.state.specs.declared.State.{State}
 use Rattle.state.specs.Range.{reqInRange}
 use Rattle.state.proofs.RangeFacts.{state-fits}

@@ -10,8 +10,10 @@ use Rattle.object.specs.declared.Answer.{Answer}
 use Rattle.object.proofs.Choice.{by-equal, by-order, either}
 use Rattle.machine.specs.declared.Node.{Node}
 use Rattle.machine.specs.declared.Event.the-variants.{Blank, CallBegins, Swaps, TurnBegins, Applies, TurnEnds, Returns, Spins, Other}
-use Rattle.machine.specs.Lines.{Line, rowOf, eventIn, eventNumber, sameEvent, isNull, L0, L1, L2, L3, L4, L5, L6, L7, L8, L9, L10, L11, L12, L13, L14, L15, L16, L17, L18, L19, L20, L21}
-use Rattle.machine.proofs.Events.{by-row}
+use Rattle.machine.specs.Fields.{isNull}
+use Rattle.machine.specs.Events.{eventNumber, sameEvent}
+use Rattle.cc_lines.specs.Lines.{Line, rowOf, eventIn, L0, L1, L2, L3, L4, L5, L6, L7, L8, L9, L10, L11, L12, L13, L14, L15, L16, L17, L18, L19, L20, L21}
+use Rattle.cc_lines.proofs.Events.{by-row}
 use Rattle.step.specs.Entry.{oneIf}
 use Rattle.step.specs.Numbers.{number, standsAt}
 use Rattle.step.proofs.Numbers.{each-line, number-most, by-line}

@@ -8,7 +8,7 @@ use lib.ListN.{length, take}
 use Rattle.bench_file.specs.Layout.{Fields}
 use Rattle.bench_file.specs.Bytes.{InRange}
 use Rattle.machine.specs.declared.ThreadId.{ThreadId}
-use Rattle.machine.specs.Effect.{takesOut}
+use Rattle.cc_synch.specs.Effect.{takesOut}
 use Rattle.state.specs.declared.State.{State}
 use Rattle.state.specs.Range.{countsInRange}
 use Rattle.step.specs.Entry.{named, line, node, request, countsAfter, entered}

@@ -3,7 +3,8 @@ use mathlib.Core.Path.{refl}
 use borrow.Author.Tests.{eq-eqb, ne-eqb}
 use native.Mathlib.Omega.{arith}
 use Rattle.machine.specs.declared.ThreadId.{ThreadId}
-use Rattle.machine.specs.Lines.{lineOf, eventNumber}
+use Rattle.machine.specs.Events.{eventNumber}
+use Rattle.cc_lines.specs.Lines.{lineOf}
 use Rattle.state.specs.declared.State.{State}
 use Rattle.step.specs.Entry.{line, event}
 use Rattle.invariant.specs.View.{viewOf}

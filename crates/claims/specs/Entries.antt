@@ -8,8 +8,9 @@ use Rattle.bench_file.specs.Layout.{Fields}
 use Rattle.machine.specs.declared.ThreadId.{ThreadId}
 use Rattle.machine.specs.declared.RetVal.the-variants.{NoAnswer, Answered}
 use Rattle.machine.specs.declared.Event.the-variants.{Applies}
-use Rattle.machine.specs.Lines.{sameEvent, nodeTold, reqTold, retTold}
+use Rattle.machine.specs.Events.{sameEvent}
 use Rattle.machine.specs.Sizes.{mostCalls}
+use Rattle.cc_lines.specs.Lines.{nodeTold, reqTold, retTold}
 use Rattle.state.specs.declared.Slot.{Slot}
 use Rattle.state.specs.declared.State.{State}
 use Rattle.state.specs.Fresh.{freshState}

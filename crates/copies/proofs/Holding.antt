@@ -8,7 +8,8 @@ use lib.ListN.{getD, length}
 use lib.Seq.{getD-set-same, getD-set-other}
 use Rattle.machine.specs.declared.Field.{Field}
 use Rattle.machine.specs.declared.Field.the-variants.{Req, Ret, Wait, Completed, Next}
-use Rattle.machine.specs.Lines.{fieldNumber, Location, tail, part, Access, read, write, swap}
+use Rattle.machine.specs.Fields.{fieldNumber}
+use Rattle.machine.specs.Accesses.{Location, tail, part, Access, read, write, swap}
 use Rattle.copies.specs.Copies.{hasCopy}
 use Rattle.copies.specs.Remote.{place, located, hasCopyOf, wordAfter, copiesAfter}
 use Rattle.copies.proofs.Valid.{read-holds, read-keeps, write-holds, write-ends}

@@ -5,7 +5,8 @@ use mathlib.Core.List.{List, [], _∷_}
 use lib.ListN.{getD, set}
 use Rattle.machine.specs.declared.SharedAccess.{SharedAccess}
 use Rattle.machine.specs.declared.SharedAccess.the-variants.{NoAccess, Read, Write, Swap}
-use Rattle.machine.specs.Lines.{Location, fieldNumber, tail, part, Access, read, write, swap}
+use Rattle.machine.specs.Fields.{fieldNumber}
+use Rattle.machine.specs.Accesses.{Location, tail, part, Access, read, write, swap}
 use Rattle.copies.specs.Copies.{hasCopy, afterRead, afterWrite}
 
 -- the place of a location among the copies: Tail, then the five fields of each node

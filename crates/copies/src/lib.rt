@@ -3,7 +3,7 @@ ghost use mathlib.Core.Path.{_≡_};
 ghost use mathlib.Core.Bool.{cond};
 ghost use Prim.Native.Nat.{_≤_};
 ghost use lib.ListN.{getD, set};
-ghost use Rattle.machine.specs.Lines.{part, accessTo, accessesOf};
+ghost use Rattle.machine.specs.Accesses.{part, accessTo, accessesOf};
 ghost use Rattle.copies.specs.Copies.{hasCopy, afterRead, afterWrite};
 ghost use Rattle.copies.specs.Remote.{place, isNone, referred};
 use machine::Field;

@@ -10,7 +10,7 @@ use borrow.Author.Tests.{eq-eqb, eqb-true, eqb-false}
 use Rattle.object.specs.Each.{Each}
 use Rattle.object.proofs.Each.{each-map}
 use Rattle.machine.specs.declared.ThreadId.{ThreadId}
-use Rattle.machine.specs.Lines.{Location, Access, read, write, swap}
+use Rattle.machine.specs.Accesses.{Location, Access, read, write, swap}
 use Rattle.copies.specs.Remote.{place, located, hasCopyOf, copiesAfter, referred}
 use Rattle.copies.proofs.Holding.{place-injective, elsewhere-kept, read-kept, own-held, others-ended}
 use Rattle.history.specs.Entries.{threadId}

@@ -9,7 +9,7 @@ use lib.ListN.{length, getD}
 use Rattle.object.proofs.Choice.{by-equal, by-order, by-test}
 use Rattle.machine.specs.declared.Event.{Event}
 use Rattle.machine.specs.declared.Event.the-variants.{Blank, CallBegins, Swaps, Returns}
-use Rattle.machine.specs.Lines.{eventNumber}
+use Rattle.machine.specs.Events.{eventNumber}
 use Rattle.history.specs.Entries.{Entry, happened, is, Is}
 use Rattle.history.specs.Terms.{Call, callOf, isOf, does, swapOrder, returned, noEntry, numberWhere, beganAt, swappedAt, returnedAt, precedes}
 use Rattle.history.specs.Method.{Seen, Positions, Moves}

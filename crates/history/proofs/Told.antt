@@ -7,7 +7,7 @@ use borrow.Author.Tests.{eq-eqb, ne-eqb}
 use Rattle.object.proofs.Choice.{by-equal, by-order}
 use Rattle.machine.specs.declared.Event.{Event}
 use Rattle.machine.specs.declared.Event.the-variants.{Blank, CallBegins, Swaps, TurnBegins, Applies, TurnEnds, Returns}
-use Rattle.machine.specs.Lines.{eventNumber}
+use Rattle.machine.specs.Events.{eventNumber}
 use Rattle.history.specs.Entries.{Entry, threadId, is, Is}
 use Rattle.history.specs.Method.{Seen, Positions, idle, calling, waiting, combining, leaving, Goes, blank, begins, swaps, turns, applies, ends, helped, leaves, other, Moves}
 

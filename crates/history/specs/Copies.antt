@@ -5,7 +5,7 @@ use mathlib.Core.Bool.{Bool, true, false, cond, not, _&&_, _||_}
 use mathlib.Core.List.{List, [], _∷_}
 use lib.Dec.{eqb}
 use Rattle.machine.specs.declared.ThreadId.{ThreadId}
-use Rattle.machine.specs.Lines.{Location, Access, read, write, swap}
+use Rattle.machine.specs.Accesses.{Location, Access, read, write, swap}
 use Rattle.copies.specs.Remote.{place, located, hasCopyOf, copiesAfter}
 use Rattle.history.specs.Entries.{Entry}
 

@@ -9,7 +9,8 @@ use Rattle.machine.specs.declared.NodeId.{NodeId}
 use Rattle.machine.specs.declared.Announced.{Announced}
 use Rattle.machine.specs.declared.RetVal.{RetVal}
 use Rattle.machine.specs.declared.Event.{Event}
-use Rattle.machine.specs.Lines.{Access, eventNumber, sameEvent}
+use Rattle.machine.specs.Accesses.{Access}
+use Rattle.machine.specs.Events.{eventNumber, sameEvent}
 use Rattle.step.specs.Entry.{oneIf}
 
 -- what one entry of the schedule does

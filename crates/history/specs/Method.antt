@@ -2,7 +2,7 @@
 use Prim.Native.Nat.{ℕ, suc, _+_, _≤_, _<_}
 use mathlib.Core.Path.{_≡_}
 use Rattle.machine.specs.declared.Event.the-variants.{Blank, CallBegins, Swaps, TurnBegins, Applies, TurnEnds, Returns, Spins}
-use Rattle.machine.specs.Lines.{eventNumber}
+use Rattle.machine.specs.Events.{eventNumber}
 use Rattle.step.specs.Entry.{oneIf}
 use Rattle.history.specs.Entries.{Entry, Is, is}
 

@@ -6,7 +6,7 @@ use lib.Dec.{ltb}
 use lib.Seq.{getD-set-same, getD-set-other}
 use borrow.Author.Tests.{ltb-true}
 use Rattle.machine.specs.declared.ThreadId.{ThreadId}
-use Rattle.machine.specs.Lines.{lineOf}
+use Rattle.cc_lines.specs.Lines.{lineOf}
 use Rattle.state.specs.declared.State.{State}
 use Rattle.state.proofs.RangeFacts.{state-fits}
 use Rattle.step.specs.Entry.{zeroThread, zeroNode, named, line, target, request, applied, effect, entered}

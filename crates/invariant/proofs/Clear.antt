@@ -17,9 +17,11 @@ use Rattle.machine.specs.declared.Field.{Field}
 use Rattle.machine.specs.declared.Field.the-variants.{Req, Ret, Wait, Completed, Next}
 use Rattle.machine.specs.declared.SharedAccess.{SharedAccess}
 use Rattle.machine.specs.declared.SharedAccess.the-variants.{NoAccess, Read, Write, Swap}
-use Rattle.machine.specs.Lines.{Line, L0, L1, L2, L3, L4, L5, L6, L7, L8, L9, L10, L11, L12, L13, L14, L15, L16, L17, L18, L19, L20, L21, rowOf, pointed, Location, tail, part, Access, read, write, accessTo, accessesOf}
-use Rattle.machine.proofs.Written.{writtenFrom, told}
+use Rattle.machine.specs.Accesses.{pointed, Location, tail, part, Access, read, write, accessTo, accessesOf}
+use Rattle.machine.proofs.Rows.{writtenFrom}
 use Rattle.machine.specs.Sizes.{mostLocations}
+use Rattle.cc_lines.specs.Lines.{Line, L0, L1, L2, L3, L4, L5, L6, L7, L8, L9, L10, L11, L12, L13, L14, L15, L16, L17, L18, L19, L20, L21, rowOf}
+use Rattle.cc_synch.proofs.Written.{told}
 use Rattle.step.specs.Numbers.{number, standsAt}
 use Rattle.object.specs.Each.{Each}
 use Rattle.object.proofs.Each.{each-left, each-right, each-map}

@@ -10,7 +10,8 @@ use borrow.Author.Tests.{eqb-true}
 use Rattle.machine.specs.declared.NodeId.{NodeId}
 use Rattle.machine.specs.declared.Field.{Field}
 use Rattle.machine.specs.declared.Field.the-variants.{Req}
-use Rattle.machine.specs.Lines.{fieldNumber, Location, tail, part, Access, read, write, swap, null}
+use Rattle.machine.specs.Fields.{fieldNumber, null}
+use Rattle.machine.specs.Accesses.{Location, tail, part, Access, read, write, swap}
 use Rattle.machine.specs.Sizes.{mostLocations}
 use Rattle.object.specs.Each.{Each}
 use Rattle.copies.specs.Remote.{place, located, hasCopyOf, remoteOf, copiesAfter, referred}

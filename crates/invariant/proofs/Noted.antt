@@ -5,7 +5,7 @@ use mathlib.Core.Path.{_≡_, _∙_}
 use mathlib.Core.Bool.{cond}
 use lib.Dec.{eqb}
 use borrow.Author.Tests.{ne-eqb}
-use Rattle.machine.specs.Lines.{Line}
+use Rattle.cc_lines.specs.Lines.{Line}
 use Rattle.step.specs.Entry.{oneIf}
 use Rattle.step.specs.Numbers.{number}
 use Rattle.step.proofs.Numbers.{each-line}

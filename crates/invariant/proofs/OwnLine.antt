@@ -10,8 +10,10 @@ use Rattle.object.specs.declared.Answer.{Answer}
 use Rattle.machine.specs.declared.NodeId.{NodeId}
 use Rattle.machine.specs.declared.Field.{Field}
 use Rattle.machine.specs.declared.Field.the-variants.{Req, Wait, Next}
-use Rattle.machine.specs.Effect.{goes}
-use Rattle.machine.specs.Lines.{Line, L0, L1, L2, L3, L4, L5, L6, L7, L8, L9, L10, L11, L12, L13, L14, L15, L16, L17, L18, L19, L20, L21, part, read, isNull}
+use Rattle.machine.specs.Fields.{isNull}
+use Rattle.machine.specs.Accesses.{part, read}
+use Rattle.cc_lines.specs.Lines.{Line, L0, L1, L2, L3, L4, L5, L6, L7, L8, L9, L10, L11, L12, L13, L14, L15, L16, L17, L18, L19, L20, L21}
+use Rattle.cc_synch.specs.Effect.{goes}
 use Rattle.step.specs.Numbers.{number, standsAt}
 use Rattle.object.specs.Each.{Each}
 use Rattle.copies.specs.Remote.{Referred, referred}

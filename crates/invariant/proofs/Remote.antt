@@ -13,8 +13,9 @@ use Rattle.machine.specs.declared.NodeId.{NodeId}
 use Rattle.machine.specs.declared.Thread.{Thread}
 use Rattle.machine.specs.declared.Field.{Field}
 use Rattle.machine.specs.declared.Field.the-variants.{Req, Wait, Next}
-use Rattle.machine.specs.Lines.{Line, Location, part, read}
+use Rattle.machine.specs.Accesses.{Location, part, read}
 use Rattle.machine.specs.Sizes.{mostLocations}
+use Rattle.cc_lines.specs.Lines.{Line}
 use Rattle.step.specs.Numbers.{number, standsAt}
 use Rattle.step.proofs.Numbers.{by-line}
 use Rattle.copies.specs.Remote.{hasCopyOf}

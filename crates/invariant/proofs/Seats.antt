@@ -7,7 +7,7 @@ use lib.Dec.{T}
 use Rattle.object.specs.declared.Request.{Request}
 use Rattle.object.specs.declared.Answer.{Answer}
 use Rattle.machine.specs.declared.Thread.{Thread}
-use Rattle.machine.specs.Lines.{Line}
+use Rattle.cc_lines.specs.Lines.{Line}
 use Rattle.step.specs.Numbers.{number, standsAt}
 use Rattle.invariant.specs.Stages.{Stage, stageOf, queued}
 use Rattle.invariant.specs.Ledger.{Ledger}

@@ -9,7 +9,7 @@ use lib.Seq.{getD-drop}
 use Rattle.object.specs.declared.Request.{Request}
 use Rattle.object.specs.declared.Answer.{Answer}
 use Rattle.object.specs.Each.{every}
-use Rattle.machine.specs.Lines.{Line}
+use Rattle.cc_lines.specs.Lines.{Line}
 use Rattle.state.proofs.Kept.{first-at}
 use Rattle.step.specs.Numbers.{number}
 use Rattle.step.proofs.Numbers.{by-line, by-last}

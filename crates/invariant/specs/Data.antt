@@ -17,7 +17,7 @@ use Rattle.object.specs.Apply.{contents}
 use Rattle.machine.specs.declared.Announced.the-variants.{Asked}
 use Rattle.machine.specs.declared.RetVal.the-variants.{Answered}
 use Rattle.machine.specs.declared.Node.{Node}
-use Rattle.machine.specs.Lines.{Line, rowOf}
+use Rattle.cc_lines.specs.Lines.{Line, rowOf}
 use Rattle.step.specs.Entry.{appliedAt}
 use Rattle.invariant.specs.Stages.{stageOf, queued}
 use Rattle.invariant.specs.Ledger.{Ledger}

@@ -8,7 +8,8 @@ use Rattle.machine.specs.declared.NodeId.{NodeId}
 use Rattle.machine.specs.declared.Thread.{Thread}
 use Rattle.machine.specs.declared.Field.{Field}
 use Rattle.machine.specs.declared.Field.the-variants.{Req, Ret, Wait, Completed, Next}
-use Rattle.machine.specs.Lines.{fieldNumber, part, read}
+use Rattle.machine.specs.Fields.{fieldNumber}
+use Rattle.machine.specs.Accesses.{part, read}
 use Rattle.copies.specs.Remote.{hasCopyOf, remoteOf}
 use Rattle.invariant.specs.Stages.{Stage, Out, Wait as Waiting, Combine, idle, o2, o3, o4, o5, w6, w7, w8, w9, w10, w11, w12, c13, c14, c15, c16, c17, c18, c20, out, wait, combine, l19, l21, dummy, stageOf}
 use Rattle.invariant.specs.View.{View}

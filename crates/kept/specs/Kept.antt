@@ -7,7 +7,7 @@ use Rattle.machine.specs.declared.ThreadId.{ThreadId}
 use Rattle.machine.specs.declared.RetVal.the-variants.{Answered}
 use Rattle.machine.specs.declared.Event.{Event}
 use Rattle.machine.specs.declared.Event.the-variants.{CallBegins, Returns}
-use Rattle.machine.specs.Lines.{sameEvent}
+use Rattle.machine.specs.Events.{sameEvent}
 use Rattle.history.specs.Entries.{Entry, threadId}
 use Rattle.history.specs.Terms.{Call, servings, costOf, noEntry, beganAt, returnedAt, shownOf, Shown, unshown, retMark, retValue}
 use Rattle.kept.specs.declared.Kept.{Kept}

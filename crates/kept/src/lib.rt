@@ -3,7 +3,7 @@ ghost use Prim.Native.Nat.{_%_};
 ghost use mathlib.Core.Path.{_≡_};
 ghost use mathlib.Core.Bool.{cond};
 ghost use lib.ListN.{set};
-ghost use Rattle.machine.specs.Lines.{sameEvent};
+ghost use Rattle.machine.specs.Events.{sameEvent};
 ghost use Rattle.kept.specs.Kept.{unkept, afterEntry, afterServing};
 use machine::Event;
 use machine::NodeId;

@@ -1,3 +1,4 @@
-pub mod Effect
-pub mod Lines
+pub mod Accesses
+pub mod Events
+pub mod Fields
 pub mod Sizes

@@ -15,8 +15,10 @@ use Rattle.machine.specs.declared.Event.the-variants.{Blank, CallBegins, Swaps,
 use Rattle.machine.specs.declared.NodeId.{NodeId}
 use Rattle.machine.specs.declared.Row.{Row}
 use Rattle.machine.specs.declared.ThreadId.{ThreadId}
-use Rattle.machine.specs.Effect.{executed}
-use Rattle.machine.specs.Lines.{Line, L0, L9, printed, Location, part, read, lineOf, rowOf, eventIn, sameEvent, accessesOf}
+use Rattle.machine.specs.Accesses.{Location, part, read, accessesOf}
+use Rattle.machine.specs.Events.{sameEvent}
+use Rattle.cc_lines.specs.Lines.{Line, L0, L9, printed, lineOf, rowOf, eventIn}
+use Rattle.cc_synch.specs.Effect.{executed}
 use Rattle.copies.specs.Copies.{hasCopy}
 use Rattle.copies.specs.Remote.{Referred, hasCopyOf, referred}
 use Rattle.copies.specs.Remote.{place as copyPlace}

@@ -19,13 +19,14 @@ use Rattle.machine.specs.declared.Announced.{Announced}
 use Rattle.object.specs.declared.Applied.{Applied}
 use Rattle.machine.specs.declared.NodeId.{NodeId}
 use Rattle.machine.specs.declared.Effect.{Effect}
-use Rattle.machine.specs.Effect.{takesOut}
 use Rattle.machine.specs.declared.ThreadId.{ThreadId}
 use Rattle.machine.specs.declared.Event.{Event}
 use Rattle.machine.specs.declared.Event.the-variants.{Swaps, TurnBegins, Applies}
 use Rattle.machine.specs.declared.Row.{Row}
-use Rattle.machine.specs.Lines.{L0, printed, lineOf, rowOf, sameEvent}
+use Rattle.machine.specs.Events.{sameEvent}
 use Rattle.machine.specs.Sizes.{mostCalls, mostNodes}
+use Rattle.cc_lines.specs.Lines.{L0, printed, lineOf, rowOf}
+use Rattle.cc_synch.specs.Effect.{takesOut}
 use Rattle.state.specs.declared.Counts.{Counts}
 use Rattle.state.specs.declared.State.{State}
 use Rattle.state.specs.Range.{inRange, countsInRange}

@@ -19,8 +19,10 @@ use Rattle.machine.specs.declared.RetVal.{RetVal}
 use Rattle.machine.specs.declared.RetVal.the-variants.{NoAnswer, Answered}
 use Rattle.machine.specs.declared.Event.{Event}
 use Rattle.machine.specs.declared.Event.the-variants.{Blank, CallBegins, Swaps, TurnBegins, Applies, Returns}
-use Rattle.machine.specs.Lines.{Line, Access, lineOf, rowOf, eventIn, eventNumber, sameEvent, accessesOf}
+use Rattle.machine.specs.Accesses.{Access, accessesOf}
+use Rattle.machine.specs.Events.{eventNumber, sameEvent}
 use Rattle.machine.specs.Sizes.{mostCalls, mostNodes}
+use Rattle.cc_lines.specs.Lines.{Line, lineOf, rowOf, eventIn}
 use Rattle.copies.specs.Remote.{referred}
 use Rattle.state.specs.declared.Counts.{Counts}
 use Rattle.state.specs.declared.State.{State}

@@ -24,7 +24,7 @@ fn from_start(schedule: &[u8], start: State) -> Played
     requires { ⌜ Startable (now schedule) start ⌝ }
     ensures { λ r. ⌜ r ≡ playedFrom start (now (schedule .entry)) ⌝ }
 {
-    let rows = machine::all_rows();
+    let rows = cc_lines::all_rows();
     let n = start.n;
     let h = start.h;
     let kind = start.kind;
@@ -39,7 +39,7 @@ fn from_start(schedule: &[u8], start: State) -> Played
         let thread = ThreadId(schedule[i]);
         let t = thread.0 as usize;
         let named = state.threads[t];
-        let line = machine::line_run(named);
+        let line = cc_lines::line_run(named);
         let row = rows[line as usize];
         let row_event = row.event;
         // Two kinds of entry change nothing but a count: a blank, and a spin on a valid copy.
@@ -61,7 +61,7 @@ fn from_start(schedule: &[u8], start: State) -> Played
         }
         let node = state.nodes[m];
         let req = node.req;
-        let event = machine::event_in(row_event, node);
+        let event = cc_lines::event_in(row_event, node);
         let applies = machine::same_event(event, Event::Applies);
         let place = step::call_place(thread, named.begun);
         let slot = state.requests[place];
@@ -76,7 +76,7 @@ fn from_start(schedule: &[u8], start: State) -> Played
             answer = applied.answer;
             state.object = object_after;
         }
-        let effect = machine::run_line(named, node, tail, h, request, answer);
+        let effect = cc_synch::run_line(named, node, tail, h, request, answer);
         // The row's accesses are read here, where alone they are needed.
         let accesses = rows[line as usize];
         let remote = copies::refer_all(&mut state.copies, accesses, target, thread, n);

@@ -14,7 +14,7 @@ use Rattle.object.proofs.Counting.{others-in-range}
 use Rattle.object.proofs.Within.{within-range}
 use Rattle.machine.specs.declared.RetVal.the-variants.{Answered}
 use Rattle.machine.specs.declared.Node.{Node}
-use Rattle.machine.specs.Effect.{withRet}
+use Rattle.machine.specs.Fields.{withRet}
 use Rattle.state.specs.declared.State.{State}
 use Rattle.state.specs.Range.{nodeInRange, inRange}
 use Rattle.state.specs.Shape.{Shaped}

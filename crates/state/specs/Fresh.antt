@@ -9,7 +9,7 @@ use Rattle.machine.specs.declared.Announced.the-variants.{NoRequest}
 use Rattle.machine.specs.declared.RetVal.the-variants.{NoAnswer}
 use Rattle.machine.specs.declared.Node.{Node}
 use Rattle.machine.specs.declared.Thread.{Thread}
-use Rattle.machine.specs.Lines.{null}
+use Rattle.machine.specs.Fields.{null}
 use Rattle.machine.specs.Sizes.{mostLocations, mostNodes}
 use Rattle.state.specs.declared.Slot.{Slot}
 use Rattle.state.specs.declared.State.{State}

@@ -16,7 +16,7 @@ use Rattle.machine.specs.declared.RetVal.{RetVal}
 use Rattle.machine.specs.declared.RetVal.the-variants.{NoAnswer, Answered}
 use Rattle.machine.specs.declared.Node.{Node}
 use Rattle.machine.specs.declared.Thread.{Thread}
-use Rattle.machine.specs.Lines.{isNull}
+use Rattle.machine.specs.Fields.{isNull}
 use Rattle.state.specs.declared.Slot.{Slot}
 use Rattle.state.specs.declared.Counts.{Counts}
 use Rattle.state.specs.declared.State.{State}

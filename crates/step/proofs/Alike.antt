@@ -27,8 +27,9 @@ use Rattle.machine.specs.declared.Thread.{Thread}
 use Rattle.machine.specs.declared.SharedAccess.{SharedAccess}
 use Rattle.machine.specs.declared.SharedAccess.the-variants.{NoAccess, Read, Write, Swap}
 use Rattle.machine.specs.declared.Row.{Row}
-use Rattle.machine.specs.Lines.{Access, read, write, swap, lineOf, lineRun, accessTo, accessesOf}
-use Rattle.machine.specs.Effect.{executed}
+use Rattle.machine.specs.Accesses.{Access, read, write, swap, accessTo, accessesOf}
+use Rattle.cc_lines.specs.Lines.{lineOf, lineRun}
+use Rattle.cc_synch.specs.Effect.{executed}
 use Rattle.copies.specs.Remote.{place, located, hasCopyOf, copiesAfter, referred}
 use Rattle.copies.proofs.Holding.{field-number-below, place-injective, Ends, elsewhere-kept, read-kept, own-held, others-ended}
 use Rattle.state.specs.declared.Slot.{Slot}

@@ -14,10 +14,11 @@ use Rattle.machine.specs.declared.NodeId.{NodeId}
 use Rattle.machine.specs.declared.Event.{Event}
 use Rattle.machine.specs.declared.Row.{Row}
 use Rattle.machine.specs.declared.Effect.{Effect}
-use Rattle.machine.specs.Lines.{lineOf, rowOf, pointed, eventIn, accessesOf}
-use Rattle.machine.specs.Effect.{takesOut, effectOf}
-use Rattle.machine.proofs.Refusal.{goes-through, refused-out}
+use Rattle.machine.specs.Accesses.{pointed, accessesOf}
 use Rattle.machine.specs.Sizes.{mostCalls}
+use Rattle.cc_lines.specs.Lines.{lineOf, rowOf, eventIn}
+use Rattle.cc_synch.specs.Effect.{takesOut, effectOf}
+use Rattle.cc_synch.proofs.Refusal.{goes-through, refused-out}
 use Rattle.copies.specs.Remote.{referred}
 use Rattle.state.specs.declared.Counts.{Counts}
 use Rattle.state.specs.declared.State.{State}

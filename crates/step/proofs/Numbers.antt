@@ -9,7 +9,7 @@ use lib.ListN.{length, getD}
 use borrow.Author.Tests.{eqb-true, leb-true, lt-leb}
 use Rattle.object.specs.Each.{Each}
 use Rattle.object.proofs.Each.{each-getD-or}
-use Rattle.machine.specs.Lines.{Line, printed, lineOf, L0, L1, L2, L3, L4, L5, L6, L7, L8, L9, L10, L11, L12, L13, L14, L15, L16, L17, L18, L19, L20, L21}
+use Rattle.cc_lines.specs.Lines.{Line, printed, lineOf, L0, L1, L2, L3, L4, L5, L6, L7, L8, L9, L10, L11, L12, L13, L14, L15, L16, L17, L18, L19, L20, L21}
 use Rattle.state.specs.Range.{lineInRange}
 use Rattle.step.specs.Numbers.{number, standsAt}
 

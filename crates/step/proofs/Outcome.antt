@@ -22,8 +22,8 @@ use Rattle.machine.specs.declared.Announced.{Announced}
 use Rattle.machine.specs.declared.Announced.the-variants.{NoRequest, Asked}
 use Rattle.machine.specs.declared.Event.{Event}
 use Rattle.machine.specs.declared.Event.the-variants.{Applies}
-use Rattle.machine.specs.Lines.{sameEvent}
-use Rattle.machine.specs.Effect.{usesEmpty, takesOut}
+use Rattle.machine.specs.Events.{sameEvent}
+use Rattle.cc_synch.specs.Effect.{usesEmpty, takesOut}
 use Rattle.state.specs.declared.State.{State}
 use Rattle.state.specs.Range.{headInRange, rowsInRange, inRange, threadInRange, nodeInRange, countsInRange}
 use Rattle.state.specs.Shape.{Shaped}

@@ -17,9 +17,11 @@ use Rattle.object.proofs.Plainly.{PastHeld, past-held, HoldSame, AnswerSame}
 use Rattle.machine.specs.declared.ThreadId.{ThreadId}
 use Rattle.machine.specs.declared.Thread.{Thread}
 use Rattle.machine.specs.declared.Effect.{Effect}
-use Rattle.machine.specs.Lines.{Access, read, write, swap, lineOf, lineRun, rowOf, pointed, sameEvent}
+use Rattle.machine.specs.Accesses.{Access, read, write, swap, pointed}
+use Rattle.machine.specs.Events.{sameEvent}
 use Rattle.machine.specs.declared.Event.the-variants.{Applies}
-use Rattle.machine.specs.Effect.{takesOut}
+use Rattle.cc_lines.specs.Lines.{lineOf, lineRun, rowOf}
+use Rattle.cc_synch.specs.Effect.{takesOut}
 use Rattle.copies.specs.Remote.{place, located, hasCopyOf, wordAfter, copiesAfter, referred}
 use Rattle.copies.proofs.Valid.{read-past, write-past}
 use Rattle.state.specs.declared.Slot.{Slot}

@@ -7,8 +7,8 @@ use lib.ListN.{length, length-set}
 use lib.Dec.{leb}
 use Rattle.object.proofs.Plainly.{places-stay}
 use Rattle.machine.specs.declared.ThreadId.{ThreadId}
-use Rattle.machine.specs.Lines.{Access}
-use Rattle.machine.specs.Effect.{usesEmpty}
+use Rattle.machine.specs.Accesses.{Access}
+use Rattle.cc_synch.specs.Effect.{usesEmpty}
 use Rattle.copies.specs.Remote.{copiesAfter, referred}
 use Rattle.state.specs.declared.State.{State}
 use Rattle.state.specs.Range.{inRange}

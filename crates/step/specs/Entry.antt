@@ -21,8 +21,10 @@ use Rattle.machine.specs.declared.Event.{Event}
 use Rattle.machine.specs.declared.Event.the-variants.{Blank, Swaps, TurnBegins, Applies, Spins}
 use Rattle.machine.specs.declared.Row.{Row}
 use Rattle.machine.specs.declared.Effect.{Effect}
-use Rattle.machine.specs.Lines.{Access, lineOf, lineRun, rowOf, pointed, eventIn, sameEvent, accessesOf}
-use Rattle.machine.specs.Effect.{executed}
+use Rattle.machine.specs.Accesses.{Access, pointed, accessesOf}
+use Rattle.machine.specs.Events.{sameEvent}
+use Rattle.cc_lines.specs.Lines.{lineOf, lineRun, rowOf, eventIn}
+use Rattle.cc_synch.specs.Effect.{executed}
 use Rattle.copies.specs.Remote.{Referred, referred}
 use Rattle.state.specs.declared.Slot.{Slot}
 use Rattle.state.specs.declared.Counts.{Counts}

@@ -3,7 +3,7 @@ use Prim.Native.Nat.{ℕ, _+_, _*_, _/_, _^_, _<_}
 use mathlib.Core.Path.{_≡_}
 use mathlib.Core.List.{List, map}
 use lib.ListN.{getD, take, drop}
-use Rattle.machine.specs.Lines.{Location}
+use Rattle.machine.specs.Accesses.{Location}
 use Rattle.copies.specs.Remote.{place, hasCopyOf}
 use Rattle.state.specs.declared.State.{State}
 use Rattle.state.specs.Range.{rowOfThread}

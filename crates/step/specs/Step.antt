@@ -3,7 +3,7 @@ use Prim.Native.Nat.{ℕ}
 use mathlib.Core.Bool.{Bool, cond, not, _&&_}
 use lib.Dec.{leb}
 use Rattle.machine.specs.declared.ThreadId.{ThreadId}
-use Rattle.machine.specs.Effect.{usesEmpty}
+use Rattle.cc_synch.specs.Effect.{usesEmpty}
 use Rattle.state.specs.declared.State.{State}
 use Rattle.state.specs.Range.{inRange}
 use Rattle.step.specs.declared.Stepped.{Stepped}

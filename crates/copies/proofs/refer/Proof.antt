@@ -1,5 +1,5 @@
 -- `copies::refer` meets its contract: each access is one or none. Assumes nothing.
-use Rattle.machine.specs.Lines.{part, tail, read, write, swap}
+use Rattle.machine.specs.Accesses.{part, tail, read, write, swap}
 use borrow.Author.Needs.{needs}
 use mathlib.Core.Path.{refl}
 use native.Mathlib.Omega.{arith}

@@ -1,6 +1,6 @@
 -- `copies::refer_all` meets its contract: two accesses in turn, the second if there is one. Assumes nothing.
 use mathlib.Core.Path.{sym, _∙_}
-use Rattle.machine.specs.Lines.{accessTo}
+use Rattle.machine.specs.Accesses.{accessTo}
 use borrow.Author.Needs.{needs}
 use Rattle.copies.proofs.References.{one-of-two, two-referred}
 use Rattle.copies.proofs.refer_all.Statement.{statement}

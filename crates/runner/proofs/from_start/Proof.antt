@@ -16,9 +16,11 @@ use Rattle.machine.specs.declared.Row.{Row}
 use Rattle.machine.specs.declared.ThreadId.{ThreadId}
 use Rattle.machine.specs.declared.Event.{Event}
 use Rattle.machine.specs.declared.Event.the-variants.{Blank, Spins}
-use Rattle.machine.specs.Effect.{effectOf}
-use Rattle.machine.specs.Lines.{L0, printed, lineOf, rowOf, sameEvent, accessesOf}
+use Rattle.machine.specs.Accesses.{accessesOf}
+use Rattle.machine.specs.Events.{sameEvent}
 use Rattle.machine.specs.Sizes.{mostCalls, mostNodes}
+use Rattle.cc_lines.specs.Lines.{L0, printed, lineOf, rowOf}
+use Rattle.cc_synch.specs.Effect.{effectOf}
 use Rattle.copies.specs.Remote.{Referred, referred}
 use Rattle.state.specs.declared.State.{State}
 use Rattle.step.specs.Entry.{zeroNode, zeroSlot, named, target, servedBy, appliedAt}

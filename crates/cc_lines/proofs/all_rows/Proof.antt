@@ -1,4 +1,4 @@
--- `machine::all_rows` meets its contract: each pass puts the row of one more line. Assumes nothing.
+-- `cc_lines::all_rows` meets its contract: each pass puts the row of one more line. Assumes nothing.
 use Prim.Native.Nat.{ℕ, _+_, _-_, _≤_, _<_}
 use native.Mathlib.Nat.{zero-add}
 use native.Mathlib.Numerals.{add-one}
@@ -8,10 +8,10 @@ use mathlib.Core.List.{List, _∷_, map}
 use lib.ListN.{replicate, set, List·getD-map}
 use lib.Seq.{paste, paste-zero, paste-suc}
 use borrow.Author.Needs.{needs}
 use Rattle.machine.specs.declared.Row.{Row}
-use Rattle.machine.specs.Lines.{L0, printed, lineOf, rowOf}
-use Rattle.machine.proofs.all_rows.Statement.{statement}
-use Rattle.machine.proofs.all_rows.Tie as tie
+use Rattle.cc_lines.specs.Lines.{L0, printed, lineOf, rowOf}
+use Rattle.cc_lines.proofs.all_rows.Statement.{statement}
+use Rattle.cc_lines.proofs.all_rows.Tie as tie
 
 abbrev all : List Row
 all = map rowOf (L0 ∷ printed)

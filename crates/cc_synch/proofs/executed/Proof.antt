@@ -1,10 +1,10 @@
--- `machine::executed` meets its contract: each arm does what its printed line does. Assumes nothing.
+-- `cc_synch::executed` meets its contract: each arm does what its printed line does. Assumes nothing.
 use native.Mathlib.Omega.{arith}
 use borrow.Author.Needs.{needs}
-use Rattle.machine.proofs.Refusal.{begun-below, served-below}
-use Rattle.machine.proofs.Table.{no-line}
-use Rattle.machine.proofs.executed.Statement.{statement}
-use Rattle.machine.proofs.executed.Tie as tie
+use Rattle.cc_lines.proofs.Table.{no-line}
+use Rattle.cc_synch.proofs.Refusal.{begun-below, served-below}
+use Rattle.cc_synch.proofs.executed.Statement.{statement}
+use Rattle.cc_synch.proofs.executed.Tie as tie
 
 add-th : tie.Need-add-th
 add-th c = let a = c .before .before .before .before .before .before .args in omega (arith, begun-below (a .thread) (a .node) (a .h) (c .before .before .before .before .before .before .pre) (c .before .match .keys1))

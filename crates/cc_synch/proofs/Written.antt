@@ -3,89 +3,20 @@
 -- the row reads alone. Assumes nothing.
 use Prim.Native.Nat.{ℕ}
 use mathlib.Core.Path.{_≡_, refl}
-use mathlib.Core.Bool.{Bool, true, false, cond, _||_}
+use mathlib.Core.Bool.{Bool, true, false, cond}
 use Rattle.object.specs.declared.Request.{Request}
 use Rattle.object.specs.declared.Answer.{Answer}
 use Rattle.machine.specs.declared.NodeId.{NodeId}
 use Rattle.machine.specs.declared.Node.{Node}
 use Rattle.machine.specs.declared.Thread.{Thread}
 use Rattle.machine.specs.declared.Effect.{Effect}
-use Rattle.machine.specs.declared.Field.{Field}
-use Rattle.machine.specs.declared.Field.the-variants.{Req, Ret, Wait, Completed, Next}
-use Rattle.machine.specs.declared.SharedAccess.{SharedAccess}
-use Rattle.machine.specs.declared.SharedAccess.the-variants.{NoAccess, Read, Write, Swap}
+use Rattle.machine.specs.declared.Field.the-variants.{Req, Ret}
 use Rattle.machine.specs.declared.Event.{Event}
 use Rattle.machine.specs.declared.Event.the-variants.{Spins, Other}
 use Rattle.machine.specs.declared.Row.{Row}
-use Rattle.machine.specs.Lines.{Line, L0, L1, L2, L3, L4, L5, L6, L7, L8, L9, L10, L11, L12, L13, L14, L15, L16, L17, L18, L19, L20, L21, rowOf, eventIn, sameField, nodeTold, reqTold, retTold}
-use Rattle.machine.specs.Effect.{executed, withWait, withCompleted, withNext}
-
--- a node with one field taken from another
-abbrev pub fieldFrom : Field → Node → Node → Node
-fieldFrom Req y x = record { req = y .req; ret = x .ret; wait = x .wait; completed = x .completed; next = x .next }
-fieldFrom Ret y x = record { req = x .req; ret = y .ret; wait = x .wait; completed = x .completed; next = x .next }
-fieldFrom Wait y x = withWait x (y .wait)
-fieldFrom Completed y x = withCompleted x (y .completed)
-fieldFrom Next y x = withNext x (y .next)
-
--- the fields that an access writes, taken from another node
-abbrev pub writtenFrom : SharedAccess → Node → Node → Node
-writtenFrom NoAccess y x = x
-writtenFrom (Read field) y x = x
-writtenFrom (Write field) y x = fieldFrom field y x
-writtenFrom Swap y x = x
-
--- the fields that an access reads, taken from another node
-abbrev pub readFrom : SharedAccess → Node → Node → Node
-readFrom NoAccess y x = x
-readFrom (Read field) y x = fieldFrom field y x
-readFrom (Write field) y x = x
-readFrom Swap y x = x
-
--- the same for both accesses of a row
-abbrev pub rowWrites : Row → Node → Node → Node
-rowWrites row y x = writtenFrom (row .second) y (writtenFrom (row .first) y x)
-
-abbrev pub rowReads : Row → Node → Node → Node
-rowReads row y x = readFrom (row .second) y (readFrom (row .first) y x)
-
--- whether an access reads, or writes, a field that passes a test, or is a Swap
-abbrev pub isRead : (Field → Bool) → SharedAccess → Bool
-isRead test NoAccess = false
-isRead test (Read field) = test field
-isRead test (Write field) = false
-isRead test Swap = false
-
-abbrev pub isWrite : (Field → Bool) → SharedAccess → Bool
-isWrite test NoAccess = false
-isWrite test (Read field) = false
-isWrite test (Write field) = test field
-isWrite test Swap = false
-
-abbrev pub isSwap : SharedAccess → Bool
-isSwap NoAccess = false
-isSwap (Read field) = false
-isSwap (Write field) = false
-isSwap Swap = true
-
--- whether a row has an access that passes a test, and which
-abbrev pub accesses : (SharedAccess → Bool) → Row → Bool
-accesses test row = test (row .first) || test (row .second)
-
-abbrev pub readsField : Field → Row → Bool
-readsField field = accesses (isRead (sameField field))
-
-abbrev pub writesField : Field → Row → Bool
-writesField field = accesses (isWrite (sameField field))
-
-abbrev pub writesNode : Row → Bool
-writesNode = accesses (isWrite (λ field. true))
-
-abbrev pub touchesNode : Row → Bool
-touchesNode row = accesses (isRead (λ field. true)) row || writesNode row
-
-abbrev pub swapsTail : Row → Bool
-swapsTail = accesses isSwap
+use Rattle.machine.proofs.Rows.{rowWrites, rowReads, writesField, writesNode, touchesNode, swapsTail}
+use Rattle.cc_lines.specs.Lines.{Line, L0, L1, L2, L3, L4, L5, L6, L7, L8, L9, L10, L11, L12, L13, L14, L15, L16, L17, L18, L19, L20, L21, rowOf, eventIn, nodeTold, reqTold, retTold}
+use Rattle.cc_synch.specs.Effect.{executed}
 
 -- what a line finds: the node that it points to, Tail, the request of the thread's call, and the object's answer to the node's req
 pub record Found : Type 0 where

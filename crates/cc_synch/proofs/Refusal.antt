@@ -7,13 +7,13 @@ use borrow.Author.Tests.{leb-false}
 use Rattle.object.proofs.Choice.{both-fail}
 use Rattle.object.specs.declared.Request.{Request}
 use Rattle.object.specs.declared.Answer.{Answer}
 use Rattle.machine.specs.declared.NodeId.{NodeId}
 use Rattle.machine.specs.declared.Node.{Node}
 use Rattle.machine.specs.declared.Thread.{Thread}
 use Rattle.machine.specs.declared.Effect.{Effect}
-use Rattle.machine.specs.Lines.{lineOf, lineRun}
-use Rattle.machine.specs.Effect.{takesOut, executed, refusedEffect, effectOf}
-use Rattle.machine.proofs.Written.{told}
+use Rattle.cc_lines.specs.Lines.{lineOf, lineRun}
+use Rattle.cc_synch.specs.Effect.{takesOut, executed, refusedEffect, effectOf}
+use Rattle.cc_synch.proofs.Written.{told}
 
 module _ (th : Thread) (x : Node) (h : ℕ) {line : ℕ} where
   -- a call begins only where a request is left

@@ -1,10 +1,10 @@
--- `machine::row_of` meets its contract: the const table is the list of the rows of the printed lines, by computation. Assumes nothing.
+-- `cc_lines::row_of` meets its contract: the const table is the list of the rows of the printed lines, by computation. Assumes nothing.
 use mathlib.Core.Path.{_∙_, ap}
 use borrow.Author.Needs.{needs}
-use Rattle.machine.specs.Lines.{rowOf}
-use Rattle.machine.proofs.Table.{row-at, no-line-above}
-use Rattle.machine.proofs.row_of.Statement.{statement}
-use Rattle.machine.proofs.row_of.Tie as tie
+use Rattle.cc_lines.specs.Lines.{rowOf}
+use Rattle.cc_lines.proofs.Table.{row-at, no-line-above}
+use Rattle.cc_lines.proofs.row_of.Statement.{statement}
+use Rattle.cc_lines.proofs.row_of.Tie as tie
 
 blank-row-requires : tie.Need-blank-row-requires
 blank-row-requires c κs = search needs

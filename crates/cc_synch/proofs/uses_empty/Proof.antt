@@ -1,7 +1,7 @@
--- `machine::uses_empty` meets its contract. Assumes nothing.
+-- `cc_synch::uses_empty` meets its contract. Assumes nothing.
 use borrow.Author.Needs.{needs}
-use Rattle.machine.proofs.uses_empty.Statement.{statement}
-use Rattle.machine.proofs.uses_empty.Tie as tie
+use Rattle.cc_synch.proofs.uses_empty.Statement.{statement}
+use Rattle.cc_synch.proofs.uses_empty.Tie as tie
 
 is-empty-req-requires : tie.Need-is-empty-req-requires
 is-empty-req-requires c κs = search needs

@@ -1,7 +1,7 @@
--- `machine::takes_out` meets its contract. Assumes nothing.
+-- `cc_synch::takes_out` meets its contract. Assumes nothing.
 use borrow.Author.Needs.{needs}
-use Rattle.machine.proofs.takes_out.Statement.{statement}
-use Rattle.machine.proofs.takes_out.Tie as tie
+use Rattle.cc_synch.proofs.takes_out.Statement.{statement}
+use Rattle.cc_synch.proofs.takes_out.Tie as tie
 
 is-null-requires : tie.Need-is-null-requires
 is-null-requires c κs = search needs

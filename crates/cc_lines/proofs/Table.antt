@@ -7,12 +7,15 @@ use mathlib.Core.Path.{_≡_, refl, sym, ap, _∙_}
 use mathlib.Core.Bool.{Bool}
 use mathlib.Core.List.{List, [], _∷_, map}
 use lib.ListN.{getD, List·getD-map, List·getD-eq-default}
 use Rattle.machine.specs.declared.Thread.{Thread}
 use Rattle.machine.specs.declared.Field.the-variants.{Req, Ret, Wait}
 use Rattle.machine.specs.declared.Event.the-variants.{Swaps, Applies, Returns, Spins, Other}
 use Rattle.machine.specs.declared.Row.{Row}
-use Rattle.machine.specs.Lines.{Line, L0, printed, lineOf, rowOf, pointed, sameEvent, accessesOf, sharedAccesses, saidEvents, beside}
-use Rattle.machine.proofs.Written.{readsField, writesField, swapsTail}
+use Rattle.machine.specs.Accesses.{pointed, accessesOf}
+use Rattle.machine.specs.Events.{sameEvent}
+use Rattle.machine.proofs.Rows.{readsField, writesField, swapsTail}
+use Rattle.cc_lines.specs.Lines.{Line, L0, printed, lineOf, rowOf}
+use Rattle.cc_lines.specs.Said.{sharedAccesses, saidEvents, beside}
 
 -- place k of the list of the rows holds the row of line k + 1
 pub row-at : (line : ℕ) → 0 < line → getD (map rowOf printed) (line - 1) (rowOf L0) ≡ rowOf (lineOf line)

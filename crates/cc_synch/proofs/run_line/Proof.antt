@@ -1,10 +1,10 @@
--- `machine::run_line` meets its contract: 14, or what the line does. Assumes nothing.
+-- `cc_synch::run_line` meets its contract: 14, or what the line does. Assumes nothing.
 use mathlib.Core.Path.{_≡_, sym, _∙_}
 use borrow.Author.Needs.{needs}
-use Rattle.machine.specs.Lines.{lineRun}
-use Rattle.machine.specs.Effect.{takesOut}
-use Rattle.machine.proofs.run_line.Statement.{statement}
-use Rattle.machine.proofs.run_line.Tie as tie
+use Rattle.cc_lines.specs.Lines.{lineRun}
+use Rattle.cc_synch.specs.Effect.{takesOut}
+use Rattle.cc_synch.proofs.run_line.Statement.{statement}
+use Rattle.cc_synch.proofs.run_line.Tie as tie
 
 -- the test that the contract speaks of
 out : (c : tie.After-takes-out) → c .takes-out .result ≡ takesOut (c .before .before .args .thread) (c .before .before .args .node) (c .before .before .args .h) (lineRun (c .before .before .args .thread))

@@ -4,15 +4,16 @@ use mathlib.Core.Bool.{Bool, true, false, cond, not, _&&_, _||_}
 use lib.Dec.{leb, ltb, eqb}
 use Rattle.object.specs.declared.Request.{Request}
 use Rattle.object.specs.declared.Answer.{Answer}
 use Rattle.machine.specs.declared.NodeId.{NodeId}
 use Rattle.machine.specs.declared.Announced.{Announced}
 use Rattle.machine.specs.declared.Announced.the-variants.{NoRequest, Asked}
 use Rattle.machine.specs.declared.RetVal.{RetVal}
 use Rattle.machine.specs.declared.RetVal.the-variants.{NoAnswer, Answered}
 use Rattle.machine.specs.declared.Node.{Node}
 use Rattle.machine.specs.declared.Thread.{Thread}
 use Rattle.machine.specs.declared.Effect.{Effect}
-use Rattle.machine.specs.Lines.{Line, null, isNull, lineOf, lineRun, L0, L1, L2, L3, L4, L5, L6, L7, L8, L9, L10, L11, L12, L13, L14, L15, L16, L17, L18, L19, L20, L21}
+use Rattle.machine.specs.Fields.{null, isNull, withReq, withRet, withWait, withCompleted, withNext}
+use Rattle.cc_lines.specs.Lines.{Line, lineOf, lineRun, L0, L1, L2, L3, L4, L5, L6, L7, L8, L9, L10, L11, L12, L13, L14, L15, L16, L17, L18, L19, L20, L21}
 
 abbrev pub isEmptyReq : Announced → Bool
 isEmptyReq NoRequest = true
@@ -21,23 +22,6 @@ isEmptyReq (Asked request) = false
 abbrev pub isEmptyRet : RetVal → Bool
 isEmptyRet NoAnswer = true
 isEmptyRet (Answered answer) = false
-
--- a node with one field written
-module _ (x : Node) where
-  abbrev pub withReq : Request → Node
-  withReq request = record { req = Asked request; ret = x .ret; wait = x .wait; completed = x .completed; next = x .next }
-
-  abbrev pub withRet : Answer → Node
-  withRet answer = record { req = x .req; ret = Answered answer; wait = x .wait; completed = x .completed; next = x .next }
-
-  abbrev pub withWait : Bool → Node
-  withWait wait = record { req = x .req; ret = x .ret; wait = wait; completed = x .completed; next = x .next }
-
-  abbrev pub withCompleted : Bool → Node
-  withCompleted completed = record { req = x .req; ret = x .ret; wait = x .wait; completed = completed; next = x .next }
-
-  abbrev pub withNext : NodeId → Node
-  withNext next = record { req = x .req; ret = x .ret; wait = x .wait; completed = x .completed; next = next }
 
 -- a thread that goes on to a line, with its variables given
 module _ (th : Thread) (line : ℕ) where

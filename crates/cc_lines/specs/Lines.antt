@@ -1,0 +1,115 @@
+-- The printed lines of Algorithm 1 of source 004, and the table of document 01, 'One entry, one line': field and access of each.
+use Prim.Native.Nat.{ℕ}
+use mathlib.Core.List.{List, [], _∷_}
+use mathlib.Core.Bool.{cond}
+use lib.ListN.{getD}
+use lib.Dec.{eqb, ltb}
+use Rattle.machine.specs.declared.NodeId.{NodeId}
+use Rattle.machine.specs.declared.Announced.{Announced}
+use Rattle.machine.specs.declared.Announced.the-variants.{NoRequest}
+use Rattle.machine.specs.declared.RetVal.{RetVal}
+use Rattle.machine.specs.declared.RetVal.the-variants.{NoAnswer}
+use Rattle.machine.specs.declared.Node.{Node}
+use Rattle.machine.specs.declared.Thread.{Thread}
+use Rattle.machine.specs.declared.Pointer.{Pointer}
+use Rattle.machine.specs.declared.Pointer.the-variants.{Own, Cur, Tmp}
+use Rattle.machine.specs.declared.Field.the-variants.{Req, Ret, Wait, Completed, Next}
+use Rattle.machine.specs.declared.SharedAccess.{SharedAccess}
+use Rattle.machine.specs.declared.SharedAccess.the-variants.{NoAccess, Read, Write, Swap}
+use Rattle.machine.specs.declared.Event.{Event}
+use Rattle.machine.specs.declared.Event.the-variants.{Blank, CallBegins, Swaps, TurnBegins, Applies, TurnEnds, Returns, Spins, Other}
+use Rattle.machine.specs.declared.Row.{Row}
+use Rattle.machine.specs.Fields.{null}
+use Rattle.machine.specs.Events.{sameEvent}
+
+-- what an entry runs: one printed line, or none, L0, which is a blank (a thread whose next line is 0 is idle: it runs line 1, or none)
+pub data Line : Type 0 where
+  L0 : Line
+  L1 : Line
+  L2 : Line
+  L3 : Line
+  L4 : Line
+  L5 : Line
+  L6 : Line
+  L7 : Line
+  L8 : Line
+  L9 : Line
+  L10 : Line
+  L11 : Line
+  L12 : Line
+  L13 : Line
+  L14 : Line
+  L15 : Line
+  L16 : Line
+  L17 : Line
+  L18 : Line
+  L19 : Line
+  L20 : Line
+  L21 : Line
+
+-- the printed lines, 1 to 21
+abbrev pub printed : List Line
+printed = L1 ∷ L2 ∷ L3 ∷ L4 ∷ L5 ∷ L6 ∷ L7 ∷ L8 ∷ L9 ∷ L10 ∷ L11 ∷ L12 ∷ L13 ∷ L14 ∷ L15 ∷ L16 ∷ L17 ∷ L18 ∷ L19 ∷ L20 ∷ L21 ∷ []
+
+-- the line of a number; a blank has the number 0, and past 21 there is no line either
+abbrev pub lineOf : ℕ → Line
+lineOf k = getD (L0 ∷ printed) k L0
+
+-- the number of the line that a thread's entry runs: an idle thread with a request left runs line 1 of a new call, one without gives a blank
+abbrev pub lineRun : Thread → ℕ
+lineRun th = cond (eqb (th .line) 0) (cond (ltb (th .begun) (th .count)) 1 0) (th .line)
+
+-- a row of the table: which node a line points to, its accesses in order, and what an entry of it is
+abbrev pub row : Pointer → SharedAccess → SharedAccess → Event → Row
+row node first second event = record { node = node; first = first; second = second; event = event }
+
+-- the table. Line 16 is two accesses. A line that accesses no node has the own node here, and leaves it. `Spins` is said of a line that may: an entry of it
+-- is a spin where it stays
+abbrev pub rowOf : Line → Row
+rowOf L0 = row Own NoAccess NoAccess Blank
+rowOf L1 = row Own NoAccess NoAccess CallBegins
+rowOf L2 = row Own (Write Next) NoAccess Other
+rowOf L3 = row Own (Write Wait) NoAccess Other
+rowOf L4 = row Own (Write Completed) NoAccess Other
+rowOf L5 = row Own Swap NoAccess Swaps
+rowOf L6 = row Cur (Write Req) NoAccess Other
+rowOf L7 = row Cur (Write Next) NoAccess Other
+rowOf L8 = row Own NoAccess NoAccess Other
+rowOf L9 = row Cur (Read Wait) NoAccess Spins
+rowOf L10 = row Cur (Read Completed) NoAccess Other
+rowOf L11 = row Cur (Read Ret) NoAccess Returns
+rowOf L12 = row Own NoAccess NoAccess TurnBegins
+rowOf L13 = row Tmp (Read Next) NoAccess Other
+rowOf L14 = row Own NoAccess NoAccess Other
+rowOf L15 = row Tmp (Read Next) NoAccess Other
+rowOf L16 = row Tmp (Read Req) (Write Ret) Applies
+rowOf L17 = row Tmp (Write Completed) NoAccess Other
+rowOf L18 = row Tmp (Write Wait) NoAccess Other
+rowOf L19 = row Own NoAccess NoAccess Other
+rowOf L20 = row Tmp (Write Wait) NoAccess TurnEnds
+rowOf L21 = row Cur (Read Ret) NoAccess Returns
+
+-- what an entry of a row is: as the row has it, but a spin only where the line finds wait true; that it then stays, and no other entry does, is `spin-stays`
+-- in proofs/Events.antt
+abbrev pub eventIn : Event → Node → Event
+eventIn Blank x = Blank
+eventIn CallBegins x = CallBegins
+eventIn Swaps x = Swaps
+eventIn TurnBegins x = TurnBegins
+eventIn Applies x = Applies
+eventIn TurnEnds x = TurnEnds
+eventIn Returns x = Returns
+eventIn Spins x = cond (x .wait) Spins Other
+eventIn Other x = Other
+
+-- the node that an entry tells, from Tail as it finds it and the node of its row: the Swap of CC-Synch assigns to its call the node that it gives, Tail's;
+-- an entry that applies takes the request of the row's node; any other tells none
+abbrev pub nodeTold : Event → NodeId → NodeId → NodeId
+nodeTold event tail node = cond (sameEvent event Swaps) tail (cond (sameEvent event Applies) node null)
+
+-- the req that an entry of such an event applies and the ret that it returns, of the node of its row; any other tells none
+abbrev pub reqTold : Event → Node → Announced
+reqTold event x = cond (sameEvent event Applies) (x .req) NoRequest
+
+abbrev pub retTold : Event → Node → RetVal
+retTold event x = cond (sameEvent event Returns) (x .ret) NoAnswer

@@ -1,0 +1,49 @@
+-- Document 01's words on the printed lines, by their numbers, a second time: the laws of the table hold it against them.
+use Prim.Native.Nat.{ℕ}
+use mathlib.Core.List.{List, [], _∷_}
+use mathlib.Core.Bool.{cond}
+use lib.Dec.{eqb}
+use Rattle.machine.specs.declared.Thread.{Thread}
+use Rattle.machine.specs.declared.Field.{Field}
+use Rattle.machine.specs.declared.Field.the-variants.{Req, Ret, Wait, Completed, Next}
+use Rattle.machine.specs.declared.Event.{Event}
+use Rattle.machine.specs.declared.Event.the-variants.{CallBegins, Swaps, TurnBegins, Applies, TurnEnds, Returns, Spins}
+use Rattle.machine.specs.Accesses.{Location, tail, part, Access, read, write, swap}
+
+-- the table as document 01 prints it, one of its rows to a line here: the lines by number, each with its shared accesses; the thread gives the nodes
+module _ (th : Thread) where
+  abbrev own : Field → Location
+  own = part (th .own)
+
+  abbrev curNode : Field → Location
+  curNode = part (th .cur)
+
+  abbrev tmpNode : Field → Location
+  tmpNode = part (th .tmp)
+
+  abbrev pub sharedAccesses : List (ℕ × List Access)
+  sharedAccesses =
+      (1, []) ∷ (8, []) ∷ (12, []) ∷ (14, []) ∷ (19, [])
+      ∷ (2, write (own Next) ∷ []) ∷ (3, write (own Wait) ∷ []) ∷ (4, write (own Completed) ∷ [])
+      ∷ (5, swap tail ∷ [])
+      ∷ (6, write (curNode Req) ∷ []) ∷ (7, write (curNode Next) ∷ [])
+      ∷ (9, read (curNode Wait) ∷ [])
+      ∷ (10, read (curNode Completed) ∷ [])
+      ∷ (11, read (curNode Ret) ∷ []) ∷ (21, read (curNode Ret) ∷ [])
+      ∷ (13, read (tmpNode Next) ∷ [])
+      ∷ (15, read (tmpNode Next) ∷ [])
+      ∷ (16, read (tmpNode Req) ∷ write (tmpNode Ret) ∷ [])
+      ∷ (17, write (tmpNode Completed) ∷ []) ∷ (18, write (tmpNode Wait) ∷ [])
+      ∷ (20, write (tmpNode Wait) ∷ [])
+      ∷ []
+
+-- and what document 01 says of an entry by its line's number: line 1 begins a call, 5 is the Swap, 9 may spin, a turn begins with 12 and ends with 20,
+-- 16 applies, and a call has returned with 11 or 21; of any other line nothing
+abbrev pub saidEvents : List (ℕ × Event)
+saidEvents =
+    (1, CallBegins) ∷ (5, Swaps) ∷ (9, Spins) ∷ (12, TurnBegins) ∷ (20, TurnEnds) ∷ (16, Applies) ∷ (11, Returns) ∷ (21, Returns) ∷ []
+
+-- what stands beside a line's number in such a table, or `none`
+abbrev pub beside : {A : Type 0} → A → ℕ → List (ℕ × A) → A
+beside none k [] = none
+beside none k (row ∷ rows) = cond (eqb k (row .0)) (row .1) (beside none k rows)

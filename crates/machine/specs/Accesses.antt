@@ -1,0 +1,37 @@
+-- The shared accesses of a line, and the locations that they go to.
+use mathlib.Core.List.{List, [], _∷_, _++_}
+use Rattle.machine.specs.declared.NodeId.{NodeId}
+use Rattle.machine.specs.declared.Thread.{Thread}
+use Rattle.machine.specs.declared.Pointer.{Pointer}
+use Rattle.machine.specs.declared.Pointer.the-variants.{Own, Cur, Tmp}
+use Rattle.machine.specs.declared.Field.{Field}
+use Rattle.machine.specs.declared.SharedAccess.{SharedAccess}
+use Rattle.machine.specs.declared.SharedAccess.the-variants.{NoAccess, Read, Write, Swap}
+use Rattle.machine.specs.declared.Row.{Row}
+
+-- the node that a pointer of the thread gives: the thread's own node, curNode or tmpNode
+abbrev pub pointed : Pointer → Thread → NodeId
+pointed Own th = th .own
+pointed Cur th = th .cur
+pointed Tmp th = th .tmp
+
+-- a location is Tail or one field of one node
+pub data Location : Type 0 where
+  tail : Location
+  part : NodeId → Field → Location
+
+-- an access reads, writes or swaps a location
+pub data Access : Type 0 where
+  read : Location → Access
+  write : Location → Access
+  swap : Location → Access
+
+abbrev pub accessTo : NodeId → SharedAccess → List Access
+accessTo node NoAccess = []
+accessTo node (Read field) = read (part node field) ∷ []
+accessTo node (Write field) = write (part node field) ∷ []
+accessTo node Swap = swap tail ∷ []
+
+-- the accesses of a line, in order: the only source of remote references
+abbrev pub accessesOf : Row → NodeId → List Access
+accessesOf row node = accessTo node (row .first) ++ accessTo node (row .second)
