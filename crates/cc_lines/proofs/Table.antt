@@ -1,6 +1,6 @@
 -- The rows of the printed lines, as a list: they have document 01's accesses, and an entry is what these make it; and the numbers that name no line.
 -- Assumes nothing.
-use Prim.Native.Nat.{ℕ, zero, suc, _-_, _<_}
+use Prim.Native.Nat.{ℕ, zero, suc, _+_, _<_}
 use native.Mathlib.Omega.{arith}
 use native.Mathlib.Numerals.{unary-clauses}
 use mathlib.Core.Path.{_≡_, refl, sym, ap, _∙_}
@@ -14,13 +14,12 @@ use Rattle.machine.specs.declared.Row.{Row}
 use Rattle.machine.specs.Accesses.{pointed, accessesOf}
 use Rattle.machine.specs.Events.{sameEvent}
 use Rattle.machine.proofs.Rows.{readsField, writesField, swapsTail}
-use Rattle.cc_lines.specs.Lines.{Line, L0, printed, lineOf, rowOf}
+use Rattle.cc_lines.specs.Lines.{Line, L0, printed, lineOf, printedLine, rowOf}
 use Rattle.cc_lines.specs.Said.{sharedAccesses, saidEvents, beside}
 
--- place k of the list of the rows holds the row of line k + 1
-pub row-at : (line : ℕ) → 0 < line → getD (map rowOf printed) (line - 1) (rowOf L0) ≡ rowOf (lineOf line)
-row-at zero h = absurd (omega arith)
-row-at (suc k) h = simp unary-clauses (List·getD-map rowOf printed k L0)
+-- place k of the table holds printed line k + 1
+pub printed-at : (k : ℕ) → getD (map printedLine printed) k (printedLine L0) ≡ printedLine (lineOf (k + 1))
+printed-at k = simp unary-clauses (List·getD-map printedLine printed k L0)
 
 -- k and the numbers that follow, n in all
 abbrev pub upFrom : ℕ → ℕ → List ℕ

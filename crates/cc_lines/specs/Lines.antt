@@ -11,16 +11,16 @@ use Rattle.machine.specs.declared.RetVal.{RetVal}
 use Rattle.machine.specs.declared.RetVal.the-variants.{NoAnswer}
 use Rattle.machine.specs.declared.Node.{Node}
 use Rattle.machine.specs.declared.Thread.{Thread}
-use Rattle.machine.specs.declared.Pointer.{Pointer}
 use Rattle.machine.specs.declared.Pointer.the-variants.{Own, Cur, Tmp}
 use Rattle.machine.specs.declared.Field.the-variants.{Req, Ret, Wait, Completed, Next}
-use Rattle.machine.specs.declared.SharedAccess.{SharedAccess}
 use Rattle.machine.specs.declared.SharedAccess.the-variants.{NoAccess, Read, Write, Swap}
 use Rattle.machine.specs.declared.Event.{Event}
 use Rattle.machine.specs.declared.Event.the-variants.{Blank, CallBegins, Swaps, TurnBegins, Applies, TurnEnds, Returns, Spins, Other}
 use Rattle.machine.specs.declared.Row.{Row}
 use Rattle.machine.specs.Fields.{null}
 use Rattle.machine.specs.Events.{sameEvent}
+use Rattle.cc_lines.specs.declared.PrintedLine.{PrintedLine}
+use Rattle.cc_lines.specs.declared.PrintedLine.the-variants.{Local, One, Two}
 
 -- what an entry runs: one printed line, or none, L0, which is a blank (a thread whose next line is 0 is idle: it runs line 1, or none)
 pub data Line : Type 0 where
@@ -59,35 +59,40 @@ lineOf k = getD (L0 ∷ printed) k L0
 abbrev pub lineRun : Thread → ℕ
 lineRun th = cond (eqb (th .line) 0) (cond (ltb (th .begun) (th .count)) 1 0) (th .line)
 
--- a row of the table: which node a line points to, its accesses in order, and what an entry of it is
-abbrev pub row : Pointer → SharedAccess → SharedAccess → Event → Row
-row node first second event = record { node = node; first = first; second = second; event = event }
+-- the table: what an entry of a line is and, where it has shared accesses, the node that it points to and these in order. Line 16 is two accesses. `Spins` is
+-- said of a line that may: an entry of it is a spin where it stays
+abbrev pub printedLine : Line → PrintedLine
+printedLine L0 = Local Blank
+printedLine L1 = Local CallBegins
+printedLine L2 = One Own (Write Next) Other
+printedLine L3 = One Own (Write Wait) Other
+printedLine L4 = One Own (Write Completed) Other
+printedLine L5 = One Own Swap Swaps
+printedLine L6 = One Cur (Write Req) Other
+printedLine L7 = One Cur (Write Next) Other
+printedLine L8 = Local Other
+printedLine L9 = One Cur (Read Wait) Spins
+printedLine L10 = One Cur (Read Completed) Other
+printedLine L11 = One Cur (Read Ret) Returns
+printedLine L12 = Local TurnBegins
+printedLine L13 = One Tmp (Read Next) Other
+printedLine L14 = Local Other
+printedLine L15 = One Tmp (Read Next) Other
+printedLine L16 = Two Tmp (Read Req) (Write Ret) Applies
+printedLine L17 = One Tmp (Write Completed) Other
+printedLine L18 = One Tmp (Write Wait) Other
+printedLine L19 = Local Other
+printedLine L20 = One Tmp (Write Wait) TurnEnds
+printedLine L21 = One Cur (Read Ret) Returns
 
--- the table. Line 16 is two accesses. A line that accesses no node has the own node here, and leaves it. `Spins` is said of a line that may: an entry of it
--- is a spin where it stays
+-- a row of the table: a line without access has the own node, and leaves it
+abbrev pub rowFrom : PrintedLine → Row
+rowFrom (Local event) = record { node = Own; first = NoAccess; second = NoAccess; event = event }
+rowFrom (One node first event) = record { node = node; first = first; second = NoAccess; event = event }
+rowFrom (Two node first second event) = record { node = node; first = first; second = second; event = event }
+
 abbrev pub rowOf : Line → Row
-rowOf L0 = row Own NoAccess NoAccess Blank
-rowOf L1 = row Own NoAccess NoAccess CallBegins
-rowOf L2 = row Own (Write Next) NoAccess Other
-rowOf L3 = row Own (Write Wait) NoAccess Other
-rowOf L4 = row Own (Write Completed) NoAccess Other
-rowOf L5 = row Own Swap NoAccess Swaps
-rowOf L6 = row Cur (Write Req) NoAccess Other
-rowOf L7 = row Cur (Write Next) NoAccess Other
-rowOf L8 = row Own NoAccess NoAccess Other
-rowOf L9 = row Cur (Read Wait) NoAccess Spins
-rowOf L10 = row Cur (Read Completed) NoAccess Other
-rowOf L11 = row Cur (Read Ret) NoAccess Returns
-rowOf L12 = row Own NoAccess NoAccess TurnBegins
-rowOf L13 = row Tmp (Read Next) NoAccess Other
-rowOf L14 = row Own NoAccess NoAccess Other
-rowOf L15 = row Tmp (Read Next) NoAccess Other
-rowOf L16 = row Tmp (Read Req) (Write Ret) Applies
-rowOf L17 = row Tmp (Write Completed) NoAccess Other
-rowOf L18 = row Tmp (Write Wait) NoAccess Other
-rowOf L19 = row Own NoAccess NoAccess Other
-rowOf L20 = row Tmp (Write Wait) NoAccess TurnEnds
-rowOf L21 = row Cur (Read Ret) NoAccess Returns
+rowOf l = rowFrom (printedLine l)
 
 -- what an entry of a row is: as the row has it, but a spin only where the line finds wait true; that it then stays, and no other entry does, is `spin-stays`
 -- in proofs/Events.antt

@@ -1,165 +1,51 @@
 // The 21 printed lines of CC-Synch, Algorithm 1 of source 004: the table of their accesses, and which of them an entry runs.
+ghost use Prim.Native.Nat.{_+_, _<_};
 ghost use mathlib.Core.Path.{_≡_};
 ghost use mathlib.Core.Bool.{cond};
 ghost use mathlib.Core.List.{_∷_, map};
-ghost use Rattle.cc_lines.specs.Lines.{L0, printed, lineOf, lineRun, rowOf, eventIn};
+ghost use Rattle.cc_lines.specs.Lines.{L0, printed, lineOf, lineRun, printedLine, rowFrom, rowOf, eventIn};
+use PrintedLine::*;
 use machine::Event;
-use machine::Field;
+use machine::Event::*;
+use machine::Field::*;
 use machine::Node;
 use machine::Pointer;
+use machine::Pointer::*;
 use machine::Row;
 use machine::SharedAccess;
+use machine::SharedAccess::*;
 use machine::Thread;
 
-// The printed lines, 1 to 21.
-const LINES: [Row; 21] = [
-    // 1
-    Row {
-        node: Pointer::Own,
-        first: SharedAccess::NoAccess,
-        second: SharedAccess::NoAccess,
-        event: Event::CallBegins,
-    },
-    // 2
-    Row {
-        node: Pointer::Own,
-        first: SharedAccess::Write(Field::Next),
-        second: SharedAccess::NoAccess,
-        event: Event::Other,
-    },
-    // 3
-    Row {
-        node: Pointer::Own,
-        first: SharedAccess::Write(Field::Wait),
-        second: SharedAccess::NoAccess,
-        event: Event::Other,
-    },
-    // 4
-    Row {
-        node: Pointer::Own,
-        first: SharedAccess::Write(Field::Completed),
-        second: SharedAccess::NoAccess,
-        event: Event::Other,
-    },
-    // 5
-    Row {
-        node: Pointer::Own,
-        first: SharedAccess::Swap,
-        second: SharedAccess::NoAccess,
-        event: Event::Swaps,
-    },
-    // 6
-    Row {
-        node: Pointer::Cur,
-        first: SharedAccess::Write(Field::Req),
-        second: SharedAccess::NoAccess,
-        event: Event::Other,
-    },
-    // 7
-    Row {
-        node: Pointer::Cur,
-        first: SharedAccess::Write(Field::Next),
-        second: SharedAccess::NoAccess,
-        event: Event::Other,
-    },
-    // 8
-    Row {
-        node: Pointer::Own,
-        first: SharedAccess::NoAccess,
-        second: SharedAccess::NoAccess,
-        event: Event::Other,
-    },
-    // 9
-    Row {
-        node: Pointer::Cur,
-        first: SharedAccess::Read(Field::Wait),
-        second: SharedAccess::NoAccess,
-        event: Event::Spins,
-    },
-    // 10
-    Row {
-        node: Pointer::Cur,
-        first: SharedAccess::Read(Field::Completed),
-        second: SharedAccess::NoAccess,
-        event: Event::Other,
-    },
-    // 11
-    Row {
-        node: Pointer::Cur,
-        first: SharedAccess::Read(Field::Ret),
-        second: SharedAccess::NoAccess,
-        event: Event::Returns,
-    },
-    // 12
-    Row {
-        node: Pointer::Own,
-        first: SharedAccess::NoAccess,
-        second: SharedAccess::NoAccess,
-        event: Event::TurnBegins,
-    },
-    // 13
-    Row {
-        node: Pointer::Tmp,
-        first: SharedAccess::Read(Field::Next),
-        second: SharedAccess::NoAccess,
-        event: Event::Other,
-    },
-    // 14
-    Row {
-        node: Pointer::Own,
-        first: SharedAccess::NoAccess,
-        second: SharedAccess::NoAccess,
-        event: Event::Other,
-    },
-    // 15
-    Row {
-        node: Pointer::Tmp,
-        first: SharedAccess::Read(Field::Next),
-        second: SharedAccess::NoAccess,
-        event: Event::Other,
-    },
-    // 16
-    Row {
-        node: Pointer::Tmp,
-        first: SharedAccess::Read(Field::Req),
-        second: SharedAccess::Write(Field::Ret),
-        event: Event::Applies,
-    },
-    // 17
-    Row {
-        node: Pointer::Tmp,
-        first: SharedAccess::Write(Field::Completed),
-        second: SharedAccess::NoAccess,
-        event: Event::Other,
-    },
-    // 18
-    Row {
-        node: Pointer::Tmp,
-        first: SharedAccess::Write(Field::Wait),
-        second: SharedAccess::NoAccess,
-        event: Event::Other,
-    },
-    // 19
-    Row {
-        node: Pointer::Own,
-        first: SharedAccess::NoAccess,
-        second: SharedAccess::NoAccess,
-        event: Event::Other,
-    },
-    // 20
-    Row {
-        node: Pointer::Tmp,
-        first: SharedAccess::Write(Field::Wait),
-        second: SharedAccess::NoAccess,
-        event: Event::TurnEnds,
-    },
-    // 21
-    Row {
-        node: Pointer::Cur,
-        first: SharedAccess::Read(Field::Ret),
-        second: SharedAccess::NoAccess,
-        event: Event::Returns,
-    },
+// A printed line: what an entry of it is and, where it has shared accesses, the node that it points to and these in order.
+enum PrintedLine {
+    Local(Event),
+    One(Pointer, SharedAccess, Event),
+    Two(Pointer, SharedAccess, SharedAccess, Event),
+}
+
+// The printed lines, 1 to 21. `Spins` is said of a line that may.
+const LINES: [PrintedLine; 21] = [
+    Local(CallBegins), // 1. nextNode = node_i
+    One(Own, Write(Next), Other), // 2. nextNode→next = null
+    One(Own, Write(Wait), Other), // 3. nextNode→wait = TRUE
+    One(Own, Write(Completed), Other), // 4. nextNode→completed = FALSE
+    One(Own, Swap, Swaps), // 5. curNode = Swap(Tail, nextNode)
+    One(Cur, Write(Req), Other), // 6. curNode→req = req
+    One(Cur, Write(Next), Other), // 7. curNode→next = nextNode
+    Local(Other), // 8. node_i = curNode
+    One(Cur, Read(Wait), Spins), // 9. while (curNode→wait == TRUE) nop
+    One(Cur, Read(Completed), Other), // 10. if (curNode→completed == TRUE)
+    One(Cur, Read(Ret), Returns), // 11.   return curNode→ret
+    Local(TurnBegins), // 12. tmpNode = curNode
+    One(Tmp, Read(Next), Other), // 13. while (tmpNode→next ≠ null AND counter < h) {
+    Local(Other), // 14.   counter = counter + 1
+    One(Tmp, Read(Next), Other), // 15.   tmpNodeNext = tmpNode→next
+    Two(Tmp, Read(Req), Write(Ret), Applies), // 16.   apply tmpNode→req, store the return value to tmpNode→ret
+    One(Tmp, Write(Completed), Other), // 17.   tmpNode→completed = TRUE
+    One(Tmp, Write(Wait), Other), // 18.   tmpNode→wait = FALSE
+    Local(Other), // 19.   tmpNode = tmpNodeNext }
+    One(Tmp, Write(Wait), TurnEnds), // 20. tmpNode→wait = FALSE
+    One(Cur, Read(Ret), Returns), // 21. return curNode→ret
 ];
 
 // The line that the thread's entry runs, 0 for a blank.
@@ -175,15 +61,37 @@ pub fn line_run(thread: Thread) -> u8
     thread.line
 }
 
-// A blank has no access.
-fn blank_row() -> Row
-    ensures { λ r. ⌜ r ≡ rowOf L0 ⌝ }
+// The printed line at a place of the table.
+fn printed_line(place: usize) -> PrintedLine
+    requires { ⌜ place < 21 ⌝ }
+    ensures { λ r. ⌜ r ≡ printedLine (lineOf (place + 1)) ⌝ }
 {
-    Row {
-        node: Pointer::Own,
-        first: SharedAccess::NoAccess,
-        second: SharedAccess::NoAccess,
-        event: Event::Blank,
+    LINES[place]
+}
+
+// The row of a printed line. A line without access has the own node, and leaves it.
+fn row_from(printed: PrintedLine) -> Row
+    ensures { λ r. ⌜ r ≡ rowFrom printed ⌝ }
+{
+    match printed {
+        Local(event) => Row {
+            node: Own,
+            first: NoAccess,
+            second: NoAccess,
+            event,
+        },
+        One(node, first, event) => Row {
+            node,
+            first,
+            second: NoAccess,
+            event,
+        },
+        Two(node, first, second, event) => Row {
+            node,
+            first,
+            second,
+            event,
+        },
     }
 }
 
@@ -192,20 +100,20 @@ pub fn row_of(line: u8) -> Row
     ensures { λ r. ⌜ r ≡ rowOf (lineOf line) ⌝ }
 {
     if line == 0 {
-        return blank_row();
+        return row_from(Local(Blank));
     }
     if line > 21 {
-        return blank_row();
+        return row_from(Local(Blank));
     }
     let place = (line - 1) as usize;
-    LINES[place]
+    row_from(printed_line(place))
 }
 
 // The rows of all lines in one array, the blank's at 0, made once for a run.
 pub fn all_rows() -> [Row; 22]
     ensures { λ r. ⌜ r ≡ map rowOf (L0 ∷ printed) ⌝ }
 {
-    let mut rows = [blank_row(); 22];
+    let mut rows = [row_of(0); 22];
     let mut line = 0u8;
     while line < 22 {
         rows[line as usize] = row_of(line);

@@ -28,14 +28,14 @@ Inv-loop rows₀ line₀ rows line = (line ≤ 22) × (rows ≡ paste (replicate
 abbrev μ-loop : tie.MeasureT-loop
 μ-loop rows₀ line₀ rows line = 22 - line
 
-blank-row-requires : tie.Need-blank-row-requires Inv-loop μ-loop
-blank-row-requires c κs = search needs
-
-loop-holds : tie.Need-loop-holds Inv-loop μ-loop
-loop-holds c = (omega arith, ap (replicate 22) (c .blank-row .ensures) ∙ paste-zero (replicate 22 (rowOf L0)) 0 all)
-
 row-of-requires : tie.Need-row-of-requires Inv-loop μ-loop
 row-of-requires c κs = search needs
+
+loop-holds : tie.Need-loop-holds Inv-loop μ-loop
+loop-holds c = (omega arith, ap (replicate 22) (c .row-of .ensures) ∙ paste-zero (replicate 22 (rowOf L0)) 0 all)
+
+row-of-requires-2 : tie.Need-row-of-requires-2 Inv-loop μ-loop
+row-of-requires-2 c κs = search needs
 
 cast-rows : tie.Need-cast-rows Inv-loop μ-loop
 cast-rows c = search needs
@@ -55,7 +55,7 @@ loop-less c = search needs
 loop-again : tie.Need-loop-again Inv-loop μ-loop
 loop-again c =
     let at = c .before .before .loop in
-    (omega (arith, c .before .loop-test .taken), rw (at .inv .1, c .row-of .ensures) (pass (at .line) (c .before .loop-test .taken)))
+    (omega (arith, c .before .loop-test .taken), rw (at .inv .1, c .row-of2 .ensures) (pass (at .line) (c .before .loop-test .taken)))
 
 returns : tie.Need-returns Inv-loop μ-loop
 returns c =
@@ -69,9 +69,9 @@ all-rows-spec =
     (tie.spec
     Inv-loop
     μ-loop
-    blank-row-requires
-    loop-holds
     row-of-requires
+    loop-holds
+    row-of-requires-2
     cast-rows
     mul-rows
     array-set-from-rows

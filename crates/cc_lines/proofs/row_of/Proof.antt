@@ -1,22 +1,24 @@
--- `cc_lines::row_of` meets its contract: the const table is the list of the rows of the printed lines, by computation. Assumes nothing.
-use mathlib.Core.Path.{_∙_, ap}
+-- `cc_lines::row_of` meets its contract: a blank, past 21 no line, or the row of a printed line. Assumes nothing.
+use Prim.Native.Nat.{ℕ, _+_, _-_}
+use native.Mathlib.Omega.{arith}
+use mathlib.Core.Path.{_≡_, _∙_, ap}
 use borrow.Author.Needs.{needs}
-use Rattle.cc_lines.specs.Lines.{rowOf}
-use Rattle.cc_lines.proofs.Table.{row-at, no-line-above}
+use Rattle.cc_lines.specs.Lines.{lineOf, rowFrom, rowOf}
+use Rattle.cc_lines.proofs.Table.{no-line-above}
 use Rattle.cc_lines.proofs.row_of.Statement.{statement}
 use Rattle.cc_lines.proofs.row_of.Tie as tie
 
-blank-row-requires : tie.Need-blank-row-requires
-blank-row-requires c κs = search needs
+row-from-requires : tie.Need-row-from-requires
+row-from-requires c κs = search needs
 
 returns : tie.Need-returns
-returns c = search needs
+returns c = simp (c .row-from .ensures, c .before .if1 .taken)
 
-blank-row-requires-2 : tie.Need-blank-row-requires-2
-blank-row-requires-2 c κs = search needs
+row-from-requires-2 : tie.Need-row-from-requires-2
+row-from-requires-2 c κs = search needs
 
 returns-2 : tie.Need-returns-2
-returns-2 c = c .blank-row2 .ensures ∙ ap rowOf (no-line-above _ (c .before .if2 .taken))
+returns-2 c = c .row-from2 .ensures ∙ ap rowOf (no-line-above _ (c .before .if2 .taken))
 
 sub-place : tie.Need-sub-place
 sub-place c = search needs
@@ -24,25 +26,28 @@ sub-place c = search needs
 cast-place : tie.Need-cast-place
 cast-place c = search needs
 
-mul-result : tie.Need-mul-result
-mul-result c = search needs
+printed-line-requires : tie.Need-printed-line-requires
+printed-line-requires c κs = search needs
 
-array-copy-out-result : tie.Need-array-copy-out-result
-array-copy-out-result c = search needs
+row-from-requires-3 : tie.Need-row-from-requires-3
+row-from-requires-3 c κs = search needs
 
 returns-3 : tie.Need-returns-3
-returns-3 c = row-at (c .before .before .before .args .line) (search needs)
+returns-3 c =
+    let line = c .before .before .before .before .args .line in
+    let next : line - 1 + 1 ≡ line = omega (arith, c .before .before .before .if1 .left) in
+    c .row-from3 .ensures ∙ ap rowFrom (c .before .printed-line .ensures) ∙ ap (λ (k : ℕ). rowOf (lineOf k)) next
 
 pub row-of-spec : {M : Type 1} → statement M
 row-of-spec =
     tie.close
     (tie.spec
-    blank-row-requires
+    row-from-requires
     returns
-    blank-row-requires-2
+    row-from-requires-2
     returns-2
     sub-place
     cast-place
-    mul-result
-    array-copy-out-result
+    printed-line-requires
+    row-from-requires-3
     returns-3)
