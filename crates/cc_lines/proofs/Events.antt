@@ -1,4 +1,4 @@
--- What an entry of a row is, but for a spin that leaves, is what the row has. Assumes nothing.
+-- What an entry of a row is, but for a waiting line that goes on, is what the row has. Assumes nothing.
 use Prim.Native.Nat.{ℕ, _<_}
 use native.Mathlib.Omega.{arith}
 use mathlib.Core.Path.{_≡_, refl, sym, _∙_}
@@ -11,7 +11,7 @@ use Rattle.machine.specs.declared.Node.{Node}
 use Rattle.machine.specs.Events.{eventNumber, sameEvent}
 use Rattle.cc_lines.specs.Lines.{eventIn}
 
--- neither a spin nor one that leaves is any other event
+-- whether a waiting line spins or goes on, it is no other event
 spin-left : (k : ℕ) (waits : Bool) → k < eventNumber Spins → eqb (eventNumber (cond waits Spins Other)) k ≡ eqb (eventNumber Spins) k
 spin-left k true below = refl
 spin-left k false below = ne-eqb 8 k (λ e. omega arith) ∙ sym (ne-eqb 7 k (λ e. omega arith))

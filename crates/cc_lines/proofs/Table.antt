@@ -1,6 +1,6 @@
 -- The rows of the printed lines, as a list: they have document 01's accesses, and an entry is what these make it; and the numbers that name no line.
 -- Assumes nothing.
-use Prim.Native.Nat.{ℕ, zero, suc, _+_, _<_}
+use Prim.Native.Nat.{ℕ, zero, suc, _+_, _≤_, _<_}
 use native.Mathlib.Omega.{arith}
 use native.Mathlib.Numerals.{unary-clauses}
 use mathlib.Core.Path.{_≡_, refl, sym, ap, _∙_}
@@ -53,16 +53,16 @@ byAccess row = readsField Req row ∷ writesField Ret row ∷ readsField Ret row
 pub used : (k : ℕ) → byEvent (rowOf (lineOf k)) ≡ byAccess (rowOf (lineOf k))
 used = at-each (λ l. byEvent (rowOf l)) (λ l. byAccess (rowOf l)) refl
 
--- none of the numbers 1 to k
-abbrev pub NoneOf : ℕ → ℕ → Type 0
-NoneOf zero n = Unit
-NoneOf (suc k) n = NoneOf k n × (n ≡ suc k → ⊥)
+-- none of the numbers below k
+abbrev pub NoneBelow : ℕ → ℕ → Type 0
+NoneBelow zero n = Unit
+NoneBelow (suc k) n = NoneBelow k n × (n ≡ k → ⊥)
 
-past : (k n : ℕ) → 0 < n → NoneOf k n → k < n
-past zero n h r = h
-past (suc k) n h r =
-    let below : k < n = past k n h (r .0) in
-    let other : n ≡ suc k → ⊥ = r .1 in
+past : (k n : ℕ) → NoneBelow k n → k ≤ n
+past zero n r = omega arith
+past (suc k) n r =
+    let below : k ≤ n = past k n (r .0) in
+    let other : n ≡ k → ⊥ = r .1 in
     omega arith
 
 -- past 21 there is no line
@@ -70,7 +70,6 @@ pub no-line-above : (n : ℕ) → 21 < n → L0 ≡ lineOf n
 no-line-above zero h = absurd (omega arith)
 no-line-above (suc k) h = sym (List·getD-eq-default printed L0 {n = k} (omega arith))
 
--- nor among what is left when 1 to 21 are taken out
-pub no-line : (n : ℕ) → NoneOf 21 n → L0 ≡ lineOf n
-no-line zero r = refl
-no-line (suc k) r = no-line-above (suc k) (past 21 (suc k) (omega arith) r)
+-- nor among what is left when 0 to 21 are taken out
+pub no-line : (n : ℕ) → NoneBelow 22 n → L0 ≡ lineOf n
+no-line n r = no-line-above n (past 22 n r)

@@ -1,7 +1,7 @@
--- The printed lines of Algorithm 1 of source 004, and the table of document 01, 'One entry, one line': field and access of each.
+-- The printed lines of Algorithm 1 of source 004: the table of document 01, 'One entry, one line', field and access of each, and the line that follows.
 use Prim.Native.Nat.{ℕ}
 use mathlib.Core.List.{List, [], _∷_}
-use mathlib.Core.Bool.{cond}
+use mathlib.Core.Bool.{cond, not, _&&_}
 use lib.ListN.{getD}
 use lib.Dec.{eqb, ltb}
 use Rattle.machine.specs.declared.NodeId.{NodeId}
@@ -17,7 +17,7 @@ use Rattle.machine.specs.declared.SharedAccess.the-variants.{NoAccess, Read, Wr
 use Rattle.machine.specs.declared.Event.{Event}
 use Rattle.machine.specs.declared.Event.the-variants.{Blank, CallBegins, Swaps, TurnBegins, Applies, TurnEnds, Returns, Spins, Other}
 use Rattle.machine.specs.declared.Row.{Row}
-use Rattle.machine.specs.Fields.{null}
+use Rattle.machine.specs.Fields.{null, isNull}
 use Rattle.machine.specs.Events.{sameEvent}
 use Rattle.cc_lines.specs.declared.PrintedLine.{PrintedLine}
 use Rattle.cc_lines.specs.declared.PrintedLine.the-variants.{Local, One, Two}
@@ -94,8 +94,34 @@ rowFrom (Two node first second event) = record { node = node; first = first; sec
 abbrev pub rowOf : Line → Row
 rowOf l = rowFrom (printedLine l)
 
--- what an entry of a row is: as the row has it, but a spin only where the line finds wait true; that it then stays, and no other entry does, is `spin-stays`
--- in proofs/Events.antt
+-- the line that follows a line, by what it finds: the node that it points to, the served counter and h. 0 is idle
+module _ (x : Node) (served h : ℕ) where
+  abbrev pub following : Line → ℕ
+  following L0 = 0  -- a blank
+  following L1 = 2
+  following L2 = 3
+  following L3 = 4
+  following L4 = 5
+  following L5 = 6
+  following L6 = 7
+  following L7 = 8
+  following L8 = 9
+  following L9 = cond (x .wait) 9 10  -- while (curNode→wait == TRUE) nop
+  following L10 = cond (x .completed) 11 12  -- if (curNode→completed == TRUE)
+  following L11 = 0  -- return
+  following L12 = 13
+  following L13 = cond (not (isNull (x .next)) && ltb served h) 14 20  -- while (tmpNode→next ≠ null AND counter < h)
+  following L14 = 15
+  following L15 = 16
+  following L16 = 17
+  following L17 = 18
+  following L18 = 19
+  following L19 = 13  -- the end of the loop's body: its test again
+  following L20 = 21
+  following L21 = 0  -- return
+
+-- what an entry of a row is: as the row has it, but a spin only where the line finds wait true; that it then stays, and no other entry does, is `spin-follows`
+-- in proofs/Follows.antt
 abbrev pub eventIn : Event → Node → Event
 eventIn Blank x = Blank
 eventIn CallBegins x = CallBegins

@@ -1,13 +1,15 @@
--- Document 01's words on the printed lines, by their numbers, a second time: the laws of the table hold it against them.
+-- Document 01's words on the printed lines, by their numbers, a second time: the table and the line that follows are held against them.
 use Prim.Native.Nat.{ℕ}
 use mathlib.Core.List.{List, [], _∷_}
-use mathlib.Core.Bool.{cond}
-use lib.Dec.{eqb}
+use mathlib.Core.Bool.{cond, not, _&&_}
+use lib.Dec.{eqb, ltb}
+use Rattle.machine.specs.declared.Node.{Node}
 use Rattle.machine.specs.declared.Thread.{Thread}
 use Rattle.machine.specs.declared.Field.{Field}
 use Rattle.machine.specs.declared.Field.the-variants.{Req, Ret, Wait, Completed, Next}
 use Rattle.machine.specs.declared.Event.{Event}
 use Rattle.machine.specs.declared.Event.the-variants.{CallBegins, Swaps, TurnBegins, Applies, TurnEnds, Returns, Spins}
+use Rattle.machine.specs.Fields.{isNull}
 use Rattle.machine.specs.Accesses.{Location, tail, part, Access, read, write, swap}
 
 -- the table as document 01 prints it, one of its rows to a line here: the lines by number, each with its shared accesses; the thread gives the nodes
@@ -42,6 +44,18 @@ module _ (th : Thread) where
 abbrev pub saidEvents : List (ℕ × Event)
 saidEvents =
     (1, CallBegins) ∷ (5, Swaps) ∷ (9, Spins) ∷ (12, TurnBegins) ∷ (20, TurnEnds) ∷ (16, Applies) ∷ (11, Returns) ∷ (21, Returns) ∷ []
+
+-- and of the line that follows: 9 stays at 9 or goes to 10, 10 goes to 11 or 12, 11 and 21 leave the thread idle, 13 goes on to 14 or else to 20, 19 leads
+-- to 13; any other line is followed by the next one printed
+module _ (x : Node) (served h : ℕ) where
+  abbrev pub saidFollowing : List (ℕ × ℕ)
+  saidFollowing =
+      (9, cond (x .wait) 9 10)
+      ∷ (10, cond (x .completed) 11 12)
+      ∷ (11, 0) ∷ (21, 0)
+      ∷ (13, cond (not (isNull (x .next)) && ltb served h) 14 20)
+      ∷ (19, 13)
+      ∷ []
 
 -- what stands beside a line's number in such a table, or `none`
 abbrev pub beside : {A : Type 0} → A → ℕ → List (ℕ × A) → A

@@ -1,9 +1,9 @@
-// The 21 printed lines of CC-Synch, Algorithm 1 of source 004: the table of their accesses, and which of them an entry runs.
+// The 21 printed lines of CC-Synch, Algorithm 1 of source 004: the table of their accesses, the line that follows each, and which of them an entry runs.
 ghost use Prim.Native.Nat.{_+_, _<_};
 ghost use mathlib.Core.Path.{_≡_};
 ghost use mathlib.Core.Bool.{cond};
 ghost use mathlib.Core.List.{_∷_, map};
-ghost use Rattle.cc_lines.specs.Lines.{L0, printed, lineOf, lineRun, printedLine, rowFrom, rowOf, eventIn};
+ghost use Rattle.cc_lines.specs.Lines.{L0, printed, lineOf, lineRun, printedLine, rowFrom, rowOf, following, eventIn};
 use PrintedLine::*;
 use machine::Event;
 use machine::Event::*;
@@ -47,6 +47,39 @@ const LINES: [PrintedLine; 21] = [
     One(Tmp, Write(Wait), TurnEnds), // 20. tmpNode→wait = FALSE
     One(Cur, Read(Ret), Returns), // 21. return curNode→ret
 ];
+
+// The line that follows a line, by cases, one for each printed line. The node is the one that the line points to, `served` the printed counter; 0 is idle.
+pub fn following(line: u8, node: Node, served: u8, h: u8) -> u8
+    ensures { λ r. ⌜ r ≡ following node served h (lineOf line) ⌝ }
+{
+    let next = node.next;
+    let linked = next.0 != machine::NULL;
+    match line {
+        0 => 0, // a blank
+        1 => 2,
+        2 => 3,
+        3 => 4,
+        4 => 5,
+        5 => 6,
+        6 => 7,
+        7 => 8,
+        8 => 9,
+        9 => if node.wait { 9 } else { 10 }, // while (curNode→wait == TRUE) nop
+        10 => if node.completed { 11 } else { 12 }, // if (curNode→completed == TRUE)
+        11 => 0, // return
+        12 => 13,
+        13 => if linked & (served < h) { 14 } else { 20 }, // while (tmpNode→next ≠ null AND counter < h)
+        14 => 15,
+        15 => 16,
+        16 => 17,
+        17 => 18,
+        18 => 19,
+        19 => 13, // the end of the loop's body: its test again
+        20 => 21,
+        21 => 0, // return
+        _ => 0, // no line, which `cc_synch::run_line` refuses
+    }
+}
 
 // The line that the thread's entry runs, 0 for a blank.
 pub fn line_run(thread: Thread) -> u8

@@ -1,3 +1,3 @@
+pub mod NextLine
 pub mod Refusal
-pub mod Stays
 pub mod Written

@@ -1,7 +1,7 @@
 -- What it means that a line takes no number out, and what `run_line` does then. Assumes nothing.
 use Prim.Native.Nat.{ℕ, _<_}
 use native.Mathlib.Omega.{arith}
-use mathlib.Core.Path.{_≡_, refl}
+use mathlib.Core.Path.{_≡_, refl, ap}
 use mathlib.Core.Bool.{Bool, true, false, cond}
 use borrow.Author.Tests.{leb-false}
 use Rattle.object.proofs.Choice.{both-fail}
@@ -32,15 +32,18 @@ module _ (th : Thread) (x : Node) (tail : NodeId) (h : ℕ) (request : Request) 
   abbrev does : Bool → Effect
   does out = cond out (refusedEffect th x tail h request answer) (executed th x tail h request answer (lineOf line))
 
-  by-test : (out : Bool) → does out .refusal ≡ 0
-      → (out ≡ false) × (does out ≡ executed th x tail h request answer (lineOf line))
-  by-test true e = absurd (omega (arith, e))
-  by-test false e = (refl, refl)
+  -- a line that takes nothing out does what Algorithm 1 does
+  pub goes-ahead : takesOut th x h line ≡ false → effectOf th x tail h request answer ≡ executed th x tail h request answer (lineOf line)
+  goes-ahead = ap does
 
-  -- a line that is not refused takes nothing out, and does what Algorithm 1 does
+  nothing-out : (out : Bool) → does out .refusal ≡ 0 → out ≡ false
+  nothing-out true e = absurd (omega (arith, e))
+  nothing-out false e = refl
+
+  -- one that is not refused takes nothing out, and does the same
   pub goes-through : effectOf th x tail h request answer .refusal ≡ 0
       → (takesOut th x h line ≡ false) × (effectOf th x tail h request answer ≡ executed th x tail h request answer (lineOf line))
-  goes-through = by-test (takesOut th x h line)
+  goes-through e = let stay = nothing-out (takesOut th x h line) e in (stay, goes-ahead stay)
 
   refused-by : (out : Bool) → (does out .refusal ≡ 0 → ⊥) → out ≡ true
   refused-by true e = refl

@@ -1,6 +1,6 @@
 -- What a printed line does to its thread, to the node that it points to and to Tail: Algorithm 1 of source 004, line by line.
 use Prim.Native.Nat.{ℕ, _+_}
-use mathlib.Core.Bool.{Bool, true, false, cond, not, _&&_, _||_}
+use mathlib.Core.Bool.{Bool, true, false, cond, _&&_, _||_}
 use lib.Dec.{leb, ltb, eqb}
 use Rattle.object.specs.declared.Request.{Request}
 use Rattle.object.specs.declared.Answer.{Answer}
@@ -13,7 +13,7 @@ use Rattle.machine.specs.declared.Node.{Node}
 use Rattle.machine.specs.declared.Thread.{Thread}
 use Rattle.machine.specs.declared.Effect.{Effect}
 use Rattle.machine.specs.Fields.{null, isNull, withReq, withRet, withWait, withCompleted, withNext}
-use Rattle.cc_lines.specs.Lines.{Line, lineOf, lineRun, L0, L1, L2, L3, L4, L5, L6, L7, L8, L9, L10, L11, L12, L13, L14, L15, L16, L17, L18, L19, L20, L21}
+use Rattle.cc_lines.specs.Lines.{Line, lineOf, lineRun, following, L0, L1, L2, L3, L4, L5, L6, L7, L8, L9, L10, L11, L12, L13, L14, L15, L16, L17, L18, L19, L20, L21}
 
 abbrev pub isEmptyReq : Announced → Bool
 isEmptyReq NoRequest = true
@@ -57,11 +57,11 @@ module _ (th : Thread) (line : ℕ) where
   withServed served = having (th .own) (th .cur) (th .tmp) (th .tmpnext) served
 
 -- line 1 adds 1 to the requests begun, sets the served counter to 0 and curNode, tmpNode and tmpNodeNext to null
-abbrev pub begins : Thread → Thread
-begins th = record {
+abbrev pub begins : Thread → ℕ → Thread
+begins th line = record {
   count = th .count;
   begun = th .begun + 1;
-  line = 2;
+  line = line;
   own = th .own;
   cur = null;
   tmp = null;
@@ -83,8 +83,8 @@ takesOut th x h line =
     || eqb line 19 && isNull (th .tmpnext)
     || usesEmpty x line
 
--- the thread, the node that it points to and Tail; h; the request of the thread's call, and the object's answer to the node's req
-module _ (th : Thread) (x : Node) (tail : NodeId) (h : ℕ) (request : Request) (answer : Answer) where
+-- the thread, the node that it points to, and Tail
+module _ (th : Thread) (x : Node) (tail : NodeId) where
   -- neither the node nor Tail changes
   abbrev pub keeps : Thread → Effect
   keeps after = record { refusal = 0; thread = after; node = x; tail = tail }
@@ -93,30 +93,38 @@ module _ (th : Thread) (x : Node) (tail : NodeId) (h : ℕ) (request : Request) 
   abbrev pub writes : Node → ℕ → Effect
   writes after line = record { refusal = 0; thread = goes th line; node = after; tail = tail }
 
-  -- nextNode is the thread's own node until line 8
+  -- what a printed line does, by its statement, if its thread goes on to the line `on`; a blank leaves it where it is. The request is that of the
+  -- thread's call, the answer the object's to the node's req; nextNode is the thread's own node until line 8
+  module _ (request : Request) (answer : Answer) (on : ℕ) where
+    abbrev pub lineDoes : Line → Effect
+    lineDoes L0 = keeps th
+    lineDoes L1 = keeps (begins th on)  -- nextNode = node_i
+    lineDoes L2 = writes (withNext x null) on  -- nextNode→next = null
+    lineDoes L3 = writes (withWait x true) on  -- nextNode→wait = TRUE
+    lineDoes L4 = writes (withCompleted x false) on  -- nextNode→completed = FALSE
+    lineDoes L5 = record { refusal = 0; thread = withCur th on tail; node = x; tail = th .own }  -- curNode = Swap(Tail, nextNode)
+    lineDoes L6 = writes (withReq x request) on  -- curNode→req = req
+    lineDoes L7 = writes (withNext x (th .own)) on  -- curNode→next = nextNode
+    lineDoes L8 = keeps (withOwn th on (th .cur))  -- node_i = curNode
+    lineDoes L9 = keeps (goes th on)  -- while (curNode→wait == TRUE) nop
+    lineDoes L10 = keeps (goes th on)  -- if (curNode→completed == TRUE)
+    lineDoes L11 = keeps (goes th on)  -- return curNode→ret
+    lineDoes L12 = keeps (withTmp th on (th .cur))  -- tmpNode = curNode
+    lineDoes L13 = keeps (goes th on)  -- while (tmpNode→next ≠ null AND counter < h)
+    lineDoes L14 = keeps (withServed th on (th .served + 1))  -- counter = counter + 1
+    lineDoes L15 = keeps (withTmpnext th on (x .next))  -- tmpNodeNext = tmpNode→next
+    lineDoes L16 = writes (withRet x answer) on  -- apply tmpNode→req, store the return value to tmpNode→ret
+    lineDoes L17 = writes (withCompleted x true) on  -- tmpNode→completed = TRUE
+    lineDoes L18 = writes (withWait x false) on  -- tmpNode→wait = FALSE
+    lineDoes L19 = keeps (withTmp th on (th .tmpnext))  -- tmpNode = tmpNodeNext
+    lineDoes L20 = writes (withWait x false) on  -- tmpNode→wait = FALSE
+    lineDoes L21 = keeps (goes th on)  -- return curNode→ret
+
+-- the thread, the node that it points to and Tail; h; the request of the thread's call, and the object's answer to the node's req
+module _ (th : Thread) (x : Node) (tail : NodeId) (h : ℕ) (request : Request) (answer : Answer) where
+  -- what a printed line does: its thread goes on to the line that follows
   abbrev pub executed : Line → Effect
-  executed L0 = keeps th
-  executed L1 = keeps (begins th)  -- nextNode = node_i
-  executed L2 = writes (withNext x null) 3  -- nextNode→next = null
-  executed L3 = writes (withWait x true) 4  -- nextNode→wait = TRUE
-  executed L4 = writes (withCompleted x false) 5  -- nextNode→completed = FALSE
-  executed L5 = record { refusal = 0; thread = withCur th 6 tail; node = x; tail = th .own }  -- curNode = Swap(Tail, nextNode)
-  executed L6 = writes (withReq x request) 7  -- curNode→req = req
-  executed L7 = writes (withNext x (th .own)) 8  -- curNode→next = nextNode
-  executed L8 = keeps (withOwn th 9 (th .cur))  -- node_i = curNode
-  executed L9 = keeps (goes th (cond (x .wait) 9 10))  -- while (curNode→wait == TRUE) nop
-  executed L10 = keeps (goes th (cond (x .completed) 11 12))  -- if (curNode→completed == TRUE)
-  executed L11 = keeps (goes th 0)  -- return curNode→ret
-  executed L12 = keeps (withTmp th 13 (th .cur))  -- tmpNode = curNode
-  executed L13 = keeps (goes th (cond (not (isNull (x .next)) && ltb (th .served) h) 14 20))  -- while (tmpNode→next ≠ null AND counter < h)
-  executed L14 = keeps (withServed th 15 (th .served + 1))  -- counter = counter + 1
-  executed L15 = keeps (withTmpnext th 16 (x .next))  -- tmpNodeNext = tmpNode→next
-  executed L16 = writes (withRet x answer) 17  -- apply tmpNode→req, store the return value to tmpNode→ret
-  executed L17 = writes (withCompleted x true) 18  -- tmpNode→completed = TRUE
-  executed L18 = writes (withWait x false) 19  -- tmpNode→wait = FALSE
-  executed L19 = keeps (withTmp th 13 (th .tmpnext))  -- tmpNode = tmpNodeNext
-  executed L20 = writes (withWait x false) 21  -- tmpNode→wait = FALSE
-  executed L21 = keeps (goes th 0)  -- return curNode→ret
+  executed l = lineDoes th x tail request answer (following x (th .served) h l) l
 
   -- a line that takes something out is 14, with all as it was
   abbrev pub refusedEffect : Effect

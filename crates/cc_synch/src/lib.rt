@@ -1,9 +1,10 @@
 // What one printed line of CC-Synch does to its thread, to the node that it points to and to Tail: Algorithm 1 of source 004.
+ghost use Prim.Native.Nat.{_<_};
 ghost use mathlib.Core.Path.{_≡_};
-ghost use mathlib.Core.Bool.{false, cond};
+ghost use mathlib.Core.Bool.{false};
 ghost use Rattle.machine.specs.Fields.{withReq, withRet};
 ghost use Rattle.cc_lines.specs.Lines.{lineOf};
-ghost use Rattle.cc_synch.specs.Effect.{isEmptyReq, isEmptyRet, usesEmpty, takesOut, executed, effectOf};
+ghost use Rattle.cc_synch.specs.Effect.{isEmptyReq, isEmptyRet, usesEmpty, takesOut, lineDoes, executed, effectOf};
 use machine::Announced;
 use machine::Effect;
 use machine::Node;
@@ -13,7 +14,72 @@ use machine::Thread;
 use object::Answer;
 use object::Request;
 
-// Algorithm 1, one printed line.
+// Algorithm 1, one printed line, by its statement: what it makes of its thread, `th`, of the node that it points to, `x`, and of Tail, `to`. The thread goes on
+// to the line `on`. `own` is node_i, and nextNode until line 8.
+fn line_does(
+    line: u8,
+    on: u8,
+    thread: Thread,
+    node: Node,
+    tail: NodeId,
+    request: Request,
+    answer: Answer,
+) -> Effect
+    requires { ⌜ (line ≡ 1 → thread .begun < 255) × (line ≡ 14 → thread .served < 255) ⌝ }
+    ensures { λ r. ⌜ r ≡ lineDoes thread node tail request answer on (lineOf line) ⌝ }
+{
+    let null = NodeId(machine::NULL);
+    let own = thread.own;
+    let cur = thread.cur;
+    let tmpnext = thread.tmpnext;
+    let next = node.next;
+    let mut th = thread;
+    let mut x = node;
+    let mut to = tail;
+    th.line = on;
+    match line {
+        0 => th.line = thread.line, // a blank
+        1 => {
+            th.begun = thread.begun + 1;
+            th.cur = null;
+            th.tmp = null;
+            th.tmpnext = null;
+            th.served = 0;
+        }
+        2 => x.next = null,
+        3 => x.wait = true,
+        4 => x.completed = false,
+        5 => {
+            th.cur = tail;
+            to = own;
+        }
+        6 => x = with_req(node, request),
+        7 => x.next = own,
+        8 => th.own = cur,
+        9 => {} // tests wait
+        10 => {} // tests completed
+        11 => {} // returns ret
+        12 => th.tmp = cur,
+        13 => {} // tests next and the counter
+        14 => th.served = thread.served + 1,
+        15 => th.tmpnext = next,
+        16 => x = with_ret(node, answer),
+        17 => x.completed = true,
+        18 => x.wait = false,
+        19 => th.tmp = tmpnext,
+        20 => x.wait = false,
+        21 => {} // returns ret
+        _ => th.line = thread.line, // no line
+    }
+    Effect {
+        refusal: 0,
+        thread: th,
+        node: x,
+        tail: to,
+    }
+}
+
+// What a printed line does, its thread going on to the line that follows.
 fn executed(
     line: u8,
     thread: Thread,
@@ -26,113 +92,8 @@ fn executed(
     requires { ⌜ takesOut thread node h line ≡ false ⌝ }
     ensures { λ r. ⌜ r ≡ executed thread node tail h request answer (lineOf line) ⌝ }
 {
-    let null = NodeId(machine::NULL);
-    let own = thread.own;
-    let cur = thread.cur;
-    let tmpnext = thread.tmpnext;
-    let next = node.next;
-    let mut th = thread;
-    let mut x = node;
-    let mut to = tail;
-    match line {
-        1 => {
-            th.begun = thread.begun + 1;
-            th.cur = null;
-            th.tmp = null;
-            th.tmpnext = null;
-            th.served = 0;
-            th.line = 2;
-        }
-        2 => {
-            x.next = null;
-            th.line = 3;
-        }
-        3 => {
-            x.wait = true;
-            th.line = 4;
-        }
-        4 => {
-            x.completed = false;
-            th.line = 5;
-        }
-        5 => {
-            th.cur = tail;
-            to = own;
-            th.line = 6;
-        }
-        6 => {
-            x = with_req(node, request);
-            th.line = 7;
-        }
-        7 => {
-            x.next = own;
-            th.line = 8;
-        }
-        8 => {
-            th.own = cur;
-            th.line = 9;
-        }
-        9 => {
-            th.line = either(node.wait, 9, 10);
-        }
-        10 => {
-            th.line = either(node.completed, 11, 12);
-        }
-        11 => {
-            th.line = 0;
-        }
-        12 => {
-            th.tmp = cur;
-            th.line = 13;
-        }
-        13 => {
-            th.line = either((next.0 != machine::NULL) & (thread.served < h), 14, 20);
-        }
-        14 => {
-            th.served = thread.served + 1;
-            th.line = 15;
-        }
-        15 => {
-            th.tmpnext = next;
-            th.line = 16;
-        }
-        16 => {
-            x = with_ret(node, answer);
-            th.line = 17;
-        }
-        17 => {
-            x.completed = true;
-            th.line = 18;
-        }
-        18 => {
-            x.wait = false;
-            th.line = 19;
-        }
-        19 => {
-            th.tmp = tmpnext;
-            th.line = 13;
-        }
-        20 => {
-            x.wait = false;
-            th.line = 21;
-        }
-        21 => {
-            th.line = 0;
-        }
-        _ => {}
-    }
-    Effect {
-        refusal: 0,
-        thread: th,
-        node: x,
-        tail: to,
-    }
-}
-
-fn either(test: bool, yes: u8, no: u8) -> u8
-    ensures { λ r. ⌜ r ≡ cond test yes no ⌝ }
-{
-    if test { yes } else { no }
+    let on = cc_lines::following(line, node, thread.served, h);
+    line_does(line, on, thread, node, tail, request, answer)
 }
 
 fn with_req(node: Node, request: Request) -> Node

@@ -76,18 +76,18 @@ module _ (n h : ℕ) (kind : Kind) (capacity : ℕ) (th : Thread) (x : Node) (ta
 
   -- a line that keeps the node and Tail, and one that writes the node
   kept : (k : ℕ) (after : Thread) → after .count ≡ th .count → takesOut th x h k ≡ usesEmpty x k
-      → ThreadFits n h after (after .line) → Leaves n h kind capacity th x k (keeps th x tail h request answer after)
+      → ThreadFits n h after (after .line) → Leaves n h kind capacity th x k (keeps th x tail after)
   kept k after c e f = record { thread = goes-on k after e f; count = c; tail = tail-fits; node = x-fits }
 
   written : (k line : ℕ) (after : Node) → NodeFits kind capacity n after → takesOut th x h k ≡ usesEmpty x k
-      → ThreadFits n h (goes th line) line → Leaves n h kind capacity th x k (writes th x tail h request answer after line)
+      → ThreadFits n h (goes th line) line → Leaves n h kind capacity th x k (writes th x tail after line)
   written k line after p e f = record { thread = goes-on k (goes th line) e f; count = refl; tail = tail-fits; node = p }
 
   -- a line with a cause of its own
   barred : (k : ℕ) (after : Thread) (cause : Bool) → after .count ≡ th .count → usesEmpty x k ≡ false
       → takesOut th x h k ≡ cause → (cause ≡ false → ThreadFits n h after (after .line))
       → (ThreadFits n h after (after .line) → cause ≡ false)
-      → Leaves n h kind capacity th x k (keeps th x tail h request answer after)
+      → Leaves n h kind capacity th x k (keeps th x tail after)
   barred k after cause c u e to from =
       record {
         thread =
@@ -98,7 +98,7 @@ module _ (n h : ℕ) (kind : Kind) (capacity : ℕ) (th : Thread) (x : Node) (ta
         node = x-fits;
       }
 
-  -- what a thread is at the line that it goes on to
+  -- that the thread fits at the line that it goes on to
   abbrev AtLine : ℕ → Type 0
   AtLine line = ThreadFits n h (goes th line) line
 

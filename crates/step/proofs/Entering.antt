@@ -18,7 +18,7 @@ use Rattle.machine.specs.Accesses.{pointed, accessesOf}
 use Rattle.machine.specs.Sizes.{mostCalls}
 use Rattle.cc_lines.specs.Lines.{lineOf, rowOf, eventIn}
 use Rattle.cc_synch.specs.Effect.{takesOut, effectOf}
-use Rattle.cc_synch.proofs.Refusal.{goes-through, refused-out}
+use Rattle.cc_synch.proofs.Refusal.{goes-ahead, goes-through, refused-out}
 use Rattle.copies.specs.Remote.{referred}
 use Rattle.state.specs.declared.Counts.{Counts}
 use Rattle.state.specs.declared.State.{State}
@@ -118,7 +118,7 @@ module _ (s : State) (t : ThreadId) (shape : Shaped s) (fits : inRange s ≡ tru
 
     -- where no number is taken out, what the calls answered makes the state after the entry
     pub line-done : takesOut (named s t) (node s t) (s .h) (line s t) ≡ false → e ≡ effect s t
-    line-done stay = is-answer ∙ rw stay
+    line-done stay = is-answer ∙ goes-ahead (named s t) (node s t) (s .tail) (s .h) (request s t) (applied s t .answer) stay
 
     pub entered-by : {counts : Counts} → e ≡ effect s t → counts ≡ plus (s .counts) more → made s t m (ob .object) e copies counts ≡ entered s t
     entered-by done ep = rw (ep, sums, done, called .copies-of, at-target, is-row, is-applied) refl

@@ -1,8 +1,10 @@
 -- `cc_synch::run_line` meets its contract: 14, or what the line does. Assumes nothing.
-use mathlib.Core.Path.{_≡_, sym, _∙_}
+use Prim.Native.Nat.{ℕ}
+use mathlib.Core.Path.{_≡_, sym, ap, _∙_}
 use borrow.Author.Needs.{needs}
-use Rattle.cc_lines.specs.Lines.{lineRun}
-use Rattle.cc_synch.specs.Effect.{takesOut}
+use Rattle.cc_lines.specs.Lines.{lineOf, lineRun}
+use Rattle.cc_synch.specs.Effect.{takesOut, executed}
+use Rattle.cc_synch.proofs.Refusal.{goes-ahead}
 use Rattle.cc_synch.proofs.run_line.Statement.{statement}
 use Rattle.cc_synch.proofs.run_line.Tie as tie
 
@@ -23,7 +25,12 @@ executed-requires : tie.Need-executed-requires
 executed-requires c κs = sym (c .before .takes-out .ensures) ∙ c .if1 .left
 
 returns-2 : tie.Need-returns-2
-returns-2 c = c .executed .ensures ∙ rw (← out (c .before .before), c .before .if1 .left, c .before .before .before .line-run .ensures)
+returns-2 c =
+    let a = c .before .before .before .before .args in
+    let d = c .before .before in
+    c .executed .ensures
+    ∙ ap (λ (k : ℕ). executed (a .thread) (a .node) (a .tail) (a .h) (a .request) (a .answer) (lineOf k)) (d .before .line-run .ensures)
+    ∙ sym (goes-ahead (a .thread) (a .node) (a .tail) (a .h) (a .request) (a .answer) (sym (out d) ∙ c .before .if1 .left))
 
 pub run-line-spec : {M : Type 1} → statement M
 run-line-spec =
