@@ -5,38 +5,38 @@ use mathlib.Core.Bool.{cond, not, _&&_}
 use lib.Dec.{eqb, ltb}
 use Rattle.machine.specs.declared.Node.{Node}
 use Rattle.machine.specs.declared.Thread.{Thread}
-use Rattle.machine.specs.declared.Field.{Field}
+use Rattle.machine.specs.declared.NodeId.{NodeId}
 use Rattle.machine.specs.declared.Field.the-variants.{Req, Ret, Wait, Completed, Next}
 use Rattle.machine.specs.declared.Event.{Event}
 use Rattle.machine.specs.declared.Event.the-variants.{CallBegins, Swaps, TurnBegins, Applies, TurnEnds, Returns, Spins}
 use Rattle.machine.specs.Fields.{isNull}
-use Rattle.machine.specs.Accesses.{Location, tail, part, Access, read, write, swap}
+use Rattle.machine.specs.Accesses.{Access, read, write, swap}
 
 -- the table as document 01 prints it, one of its rows to a line here: the lines by number, each with its shared accesses; the thread gives the nodes
 module _ (th : Thread) where
-  abbrev own : Field → Location
-  own = part (th .own)
+  abbrev own : NodeId
+  own = th .own
 
-  abbrev curNode : Field → Location
-  curNode = part (th .cur)
+  abbrev curNode : NodeId
+  curNode = th .cur
 
-  abbrev tmpNode : Field → Location
-  tmpNode = part (th .tmp)
+  abbrev tmpNode : NodeId
+  tmpNode = th .tmp
 
   abbrev pub sharedAccesses : List (ℕ × List Access)
   sharedAccesses =
       (1, []) ∷ (8, []) ∷ (12, []) ∷ (14, []) ∷ (19, [])
-      ∷ (2, write (own Next) ∷ []) ∷ (3, write (own Wait) ∷ []) ∷ (4, write (own Completed) ∷ [])
-      ∷ (5, swap tail ∷ [])
-      ∷ (6, write (curNode Req) ∷ []) ∷ (7, write (curNode Next) ∷ [])
-      ∷ (9, read (curNode Wait) ∷ [])
-      ∷ (10, read (curNode Completed) ∷ [])
-      ∷ (11, read (curNode Ret) ∷ []) ∷ (21, read (curNode Ret) ∷ [])
-      ∷ (13, read (tmpNode Next) ∷ [])
-      ∷ (15, read (tmpNode Next) ∷ [])
-      ∷ (16, read (tmpNode Req) ∷ write (tmpNode Ret) ∷ [])
-      ∷ (17, write (tmpNode Completed) ∷ []) ∷ (18, write (tmpNode Wait) ∷ [])
-      ∷ (20, write (tmpNode Wait) ∷ [])
+      ∷ (2, write own Next ∷ []) ∷ (3, write own Wait ∷ []) ∷ (4, write own Completed ∷ [])
+      ∷ (5, swap ∷ [])
+      ∷ (6, write curNode Req ∷ []) ∷ (7, write curNode Next ∷ [])
+      ∷ (9, read curNode Wait ∷ [])
+      ∷ (10, read curNode Completed ∷ [])
+      ∷ (11, read curNode Ret ∷ []) ∷ (21, read curNode Ret ∷ [])
+      ∷ (13, read tmpNode Next ∷ [])
+      ∷ (15, read tmpNode Next ∷ [])
+      ∷ (16, read tmpNode Req ∷ write tmpNode Ret ∷ [])
+      ∷ (17, write tmpNode Completed ∷ []) ∷ (18, write tmpNode Wait ∷ [])
+      ∷ (20, write tmpNode Wait ∷ [])
       ∷ []
 
 -- and what document 01 says of an entry by its line's number: line 1 begins a call, 5 is the Swap, 9 may spin, a turn begins with 12 and ends with 20,

@@ -7,11 +7,11 @@ use mathlib.Core.List.{List, [], _∷_}
 use Rattle.object.specs.Each.{Each}
 use Rattle.machine.specs.declared.ThreadId.{ThreadId}
 use Rattle.machine.specs.declared.NodeId.{NodeId}
-use Rattle.machine.specs.Accesses.{accessesOf, Location, Access}
+use Rattle.machine.specs.Accesses.{Access, Location, located, accessesOf}
 use Rattle.machine.specs.Sizes.{mostLocations}
 use Rattle.cc_lines.specs.Lines.{Line, lineOf, rowOf}
 use Rattle.copies.specs.Copies.{hasCopy}
-use Rattle.copies.specs.Remote.{place, located, hasCopyOf}
+use Rattle.copies.specs.Remote.{place, hasCopyOf}
 use Rattle.copies.proofs.Valid.{none-held}
 use Rattle.state.specs.declared.State.{State}
 use Rattle.state.proofs.RangeFacts.{state-fits}

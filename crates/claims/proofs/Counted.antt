@@ -11,8 +11,8 @@ use Rattle.machine.specs.declared.NodeId.{NodeId}
 use Rattle.machine.specs.declared.ThreadId.{ThreadId}
 use Rattle.machine.specs.declared.SharedAccess.{SharedAccess}
 use Rattle.machine.specs.declared.SharedAccess.the-variants.{NoAccess, Read, Write, Swap}
-use Rattle.machine.specs.Accesses.{Access, accessTo}
-use Rattle.copies.specs.Remote.{located, hasCopyOf, copiesAfter, referred}
+use Rattle.machine.specs.Accesses.{Access, located, accessTo}
+use Rattle.copies.specs.Remote.{hasCopyOf, copiesAfter, referred}
 use Rattle.state.specs.declared.Counts.{Counts}
 use Rattle.state.specs.declared.State.{State}
 use Rattle.state.specs.Range.{countsInRange}

@@ -9,9 +9,10 @@ use lib.Seq.{getD-set-same, getD-set-other}
 use Rattle.machine.specs.declared.Field.{Field}
 use Rattle.machine.specs.declared.Field.the-variants.{Req, Ret, Wait, Completed, Next}
 use Rattle.machine.specs.Fields.{fieldNumber}
-use Rattle.machine.specs.Accesses.{Location, tail, part, Access, read, write, swap}
+use Rattle.machine.specs.declared.NodeId.{NodeId}
+use Rattle.machine.specs.Accesses.{Access, read, write, swap, Location, tail, part, located}
 use Rattle.copies.specs.Copies.{hasCopy}
-use Rattle.copies.specs.Remote.{place, located, hasCopyOf, wordAfter, copiesAfter}
+use Rattle.copies.specs.Remote.{place, hasCopyOf, wordAfter, copiesAfter}
 use Rattle.copies.proofs.Valid.{read-holds, read-keeps, write-holds, write-ends}
 
 -- a node has five fields
@@ -44,9 +45,9 @@ place-injective (part m f) (part m′ g) e =
 
 -- an access that ends the copies of the other threads
 abbrev pub Ends : Access → Type 0
-Ends (read l) = ⊥
-Ends (write l) = Unit
-Ends (swap l) = Unit
+Ends (read m f) = ⊥
+Ends (write m f) = Unit
+Ends swap = Unit
 
 module _ (n t : ℕ) (copies : List ℕ) where
   -- the copies of another location are as they were
@@ -59,18 +60,19 @@ module _ (n t : ℕ) (copies : List ℕ) where
   here a u h = ap (λ (w : ℕ). hasCopy w u) (getD-set-same copies (place (located a)) _ 0 h)
 
   -- a read keeps the other threads' copies of its location
-  pub read-kept : (l : Location) (u : ℕ) → place l < length copies → (u ≡ t → ⊥) → hasCopyOf (copiesAfter n t (read l) copies) u l ≡ hasCopyOf copies u l
-  read-kept l u h d = here (read l) u h ∙ read-keeps (getD copies (place l) 0) t u d
+  pub read-kept : (m : NodeId) (f : Field) → let l = located (read m f) in (u : ℕ) → place l < length copies → (u ≡ t → ⊥)
+      → hasCopyOf (copiesAfter n t (read m f) copies) u l ≡ hasCopyOf copies u l
+  read-kept m f u h d = here (read m f) u h ∙ read-keeps _ t u d
 
   module _ (k : t < n) (m : n ≤ 16) where
     -- the thread has a copy of the location of its access
     pub own-held : (a : Access) → place (located a) < length copies → hasCopyOf (copiesAfter n t a copies) t (located a) ≡ true
-    own-held (read l) h = here (read l) t h ∙ read-holds (getD copies (place l) 0) t (omega arith)
-    own-held (write l) h = here (write l) t h ∙ write-holds n (getD copies (place l) 0) t k m
-    own-held (swap l) h = here (swap l) t h ∙ write-holds n (getD copies (place l) 0) t k m
+    own-held (read node f) h = here (read node f) t h ∙ read-holds _ t (omega arith)
+    own-held (write node f) h = here (write node f) t h ∙ write-holds n _ t k m
+    own-held swap h = here swap t h ∙ write-holds n _ t k m
 
     -- a write or Swap ends the copy of each other thread of the n
     pub others-ended : (a : Access) → Ends a → (u : ℕ) → place (located a) < length copies → u < n → (u ≡ t → ⊥) → hasCopyOf (copiesAfter n t a copies) u (located a) ≡ false
-    others-ended (read l) r u h b d = absurd r
-    others-ended (write l) r u h b d = here (write l) u h ∙ write-ends n (getD copies (place l) 0) t k m u b d
-    others-ended (swap l) r u h b d = here (swap l) u h ∙ write-ends n (getD copies (place l) 0) t k m u b d
+    others-ended (read node f) r u h b d = absurd r
+    others-ended (write node f) r u h b d = here (write node f) u h ∙ write-ends n _ t k m u b d
+    others-ended swap r u h b d = here swap u h ∙ write-ends n _ t k m u b d

@@ -9,9 +9,9 @@ use lib.ListN.{getD, set, length, List·getD-eq-default}
 use Rattle.machine.specs.declared.NodeId.{NodeId}
 use Rattle.machine.specs.declared.SharedAccess.{SharedAccess}
 use Rattle.machine.specs.declared.SharedAccess.the-variants.{NoAccess, Read, Write, Swap}
-use Rattle.machine.specs.Accesses.{Access, accessTo}
+use Rattle.machine.specs.Accesses.{Access, located, accessTo}
 use Rattle.copies.specs.Copies.{hasCopy}
-use Rattle.copies.specs.Remote.{place, located, remoteOf, wordAfter, copiesAfter, referred, isNone}
+use Rattle.copies.specs.Remote.{place, remoteOf, wordAfter, copiesAfter, referred, isNone}
 use Rattle.copies.proofs.Valid.{none-held}
 
 at-most-one : {r : ℕ} (b : Bool) → r ≡ cond b 0 1 → r ≤ 1

@@ -6,19 +6,13 @@ use lib.ListN.{getD, set}
 use Rattle.machine.specs.declared.SharedAccess.{SharedAccess}
 use Rattle.machine.specs.declared.SharedAccess.the-variants.{NoAccess, Read, Write, Swap}
 use Rattle.machine.specs.Fields.{fieldNumber}
-use Rattle.machine.specs.Accesses.{Location, tail, part, Access, read, write, swap}
+use Rattle.machine.specs.Accesses.{Access, read, write, swap, Location, tail, part, located}
 use Rattle.copies.specs.Copies.{hasCopy, afterRead, afterWrite}
 
 -- the place of a location among the copies: Tail, then the five fields of each node
 abbrev pub place : Location → ℕ
 place tail = 0
 place (part node field) = 1 + 5 * node .0 + fieldNumber field
-
--- the location of an access
-abbrev pub located : Access → Location
-located (read l) = l
-located (write l) = l
-located (swap l) = l
 
 -- whether a thread has a valid copy of a location, by the location's place
 abbrev pub hasCopyOf : List ℕ → ℕ → Location → Bool
@@ -30,9 +24,9 @@ remoteOf copies t access = cond (hasCopyOf copies t (located access)) 0 1
 
 -- afterwards the thread has a copy; a write or Swap ends every other thread's, of n threads
 abbrev pub wordAfter : ℕ → ℕ → Access → ℕ → ℕ
-wordAfter n t (read l) word = afterRead word t
-wordAfter n t (write l) word = afterWrite n word t
-wordAfter n t (swap l) word = afterWrite n word t
+wordAfter n t (read node field) word = afterRead word t
+wordAfter n t (write node field) word = afterWrite n word t
+wordAfter n t swap word = afterWrite n word t
 
 abbrev pub copiesAfter : ℕ → ℕ → Access → List ℕ → List ℕ
 copiesAfter n t access copies =

@@ -10,8 +10,8 @@ use borrow.Author.Tests.{eq-eqb, eqb-true, eqb-false}
 use Rattle.object.specs.Each.{Each}
 use Rattle.object.proofs.Each.{each-map}
 use Rattle.machine.specs.declared.ThreadId.{ThreadId}
-use Rattle.machine.specs.Accesses.{Location, Access, read, write, swap}
-use Rattle.copies.specs.Remote.{place, located, hasCopyOf, copiesAfter, referred}
+use Rattle.machine.specs.Accesses.{Access, read, write, swap, Location, located}
+use Rattle.copies.specs.Remote.{place, hasCopyOf, copiesAfter, referred}
 use Rattle.copies.proofs.Holding.{place-injective, elsewhere-kept, read-kept, own-held, others-ended}
 use Rattle.history.specs.Entries.{threadId}
 use Rattle.history.specs.Copies.{writing, decides, copyAfter, remoteSaid, remoteMarks}
@@ -42,9 +42,9 @@ module _ (n t : ℕ) (below : t < n) (few : n ≤ 16) where
     here-after : (copies : List ℕ) (a : Access) → Inside copies a → (mine : Bool) → eqb t u ≡ mine
         → hasCopyOf (copiesAfter n t a copies) u (located a) ≡ cond (mine || writing a) mine (hasCopyOf copies u (located a))
     here-after copies a h true e = rw (sym (eqb-true t u e)) (own-held n t copies below few a h)
-    here-after copies (read l) h false e = read-kept n t copies l u h (other e)
-    here-after copies (write l) h false e = others-ended n t copies below few (write l) tt u h exists (other e)
-    here-after copies (swap l) h false e = others-ended n t copies below few (swap l) tt u h exists (other e)
+    here-after copies (read m f) h false e = read-kept n t copies m f u h (other e)
+    here-after copies (write m f) h false e = others-ended n t copies below few (write m f) tt u h exists (other e)
+    here-after copies swap h false e = others-ended n t copies below few swap tt u h exists (other e)
 
     module _ (l : Location) where
       -- so a location's copy, after one access

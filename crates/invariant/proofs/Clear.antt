@@ -1,5 +1,5 @@
 -- What a thread's line writes: Tail, fields of the node that it holds, or as combiner ret, completed or wait of the node at position r;
--- so which copies of another thread stay. Assumes Control, n at most 16, and copies of 86 places.
+-- so which copies of another thread stay. Assumes Control, n at most 16, and full copies.
 use Prim.Native.Nat.{ℕ, _≤_, _<_}
 use native.Mathlib.Omega.{arith}
 use mathlib.Core.Path.{_≡_, refl, sym, _∙_, ap, subst}
@@ -17,7 +17,7 @@ use Rattle.machine.specs.declared.Field.{Field}
 use Rattle.machine.specs.declared.Field.the-variants.{Req, Ret, Wait, Completed, Next}
 use Rattle.machine.specs.declared.SharedAccess.{SharedAccess}
 use Rattle.machine.specs.declared.SharedAccess.the-variants.{NoAccess, Read, Write, Swap}
-use Rattle.machine.specs.Accesses.{pointed, Location, tail, part, Access, read, write, accessTo, accessesOf}
+use Rattle.machine.specs.Accesses.{pointed, Access, read, write, Location, tail, part, located, accessTo, accessesOf}
 use Rattle.machine.proofs.Rows.{writtenFrom}
 use Rattle.machine.specs.Sizes.{mostLocations}
 use Rattle.cc_lines.specs.Lines.{Line, L0, L1, L2, L3, L4, L5, L6, L7, L8, L9, L10, L11, L12, L13, L14, L15, L16, L17, L18, L19, L20, L21, rowOf}
@@ -25,16 +25,16 @@ use Rattle.cc_synch.proofs.Written.{told}
 use Rattle.step.specs.Numbers.{number, standsAt}
 use Rattle.object.specs.Each.{Each}
 use Rattle.object.proofs.Each.{each-left, each-right, each-map}
-use Rattle.copies.specs.Remote.{place, located}
+use Rattle.copies.specs.Remote.{place}
 use Rattle.copies.proofs.Holding.{field-number-below, Ends}
 use Rattle.invariant.specs.Stages.{Stage, Out, Wait as Waiting, Combine, o2, o3, o4, w6, w7, w9, w10, w11, c13, c15, c16, c17, c18, c20, out, wait, combine, l19, l21, dummy, stageOf, queued}
 use Rattle.invariant.specs.Ledger.{Ledger}
 use Rattle.invariant.specs.View.{View, Does, goal}
-use Rattle.invariant.specs.Control.{Slot, slot, slotOfThread, held, waitRow, StageFacts, Order, Control}
+use Rattle.invariant.specs.Control.{Slot, holding, slot, slotOfThread, held, waitRow, StageFacts, Order, Control}
 use Rattle.invariant.specs.Remote.{among}
 use Rattle.object.proofs.Choice.{by-equal}
 use Rattle.invariant.proofs.Slots.{in-queue}
-use Rattle.invariant.proofs.Seats.{holding, holds, now, stage-at, node-bound, owner, whose}
+use Rattle.invariant.proofs.Seats.{holds, now, stage-at, node-bound, owner, whose}
 use Rattle.invariant.proofs.Copies.{either, Misses, Placed}
 
 -- the node that thread t's line points to, and the line's accesses
@@ -165,25 +165,25 @@ module _ {n h : ℕ} {v v′ : View} {g : Ledger} {t : ℕ} {l : Line} {request 
   place-of : (m : NodeId) → m .0 ≤ n → (f : Field) → place (part m f) < mostLocations
   place-of m i f = omega (arith, field-number-below f, en .small)
 
-  look : (m : NodeId) → m .0 ≤ n → (f : Field) → Touch m (read (part m f))
+  look : (m : NodeId) → m .0 ≤ n → (f : Field) → Touch m (read m f)
   look m i f = record { placed = record { fits = place-of m i f; there = refl }; ends = absurd }
 
-  change : (m : NodeId) → m .0 ≤ n → (f : Field) → Hit (part m f) → Touch m (write (part m f))
+  change : (m : NodeId) → m .0 ≤ n → (f : Field) → Hit (part m f) → Touch m (write m f)
   change m i f hit = record { placed = record { fits = place-of m i f; there = refl }; ends = λ _. hit }
 
   within : {m : ℕ} → held (slot n v t) ≡ m → m ≤ n
   within i = rw (← i) (en .control .nodes t (omega (arith, en .does .below)))
 
-  look-cur : (s : Stage) → stageOf (standsAt (number l)) ≡ s → T (queued s) → (f : Field) → Touch (v .thread t .cur) (read (part (v .thread t .cur) f))
+  look-cur : (s : Stage) → stageOf (standsAt (number l)) ≡ s → T (queued s) → (f : Field) → Touch (v .thread t .cur) (read (v .thread t .cur) f)
   look-cur s e q f = look (v .thread t .cur) (within (rw (is-true (queued s) q) at (mine s e .node))) f
 
-  change-own : (o : Out) → stageOf (standsAt (number l)) ≡ out o → (f : Field) → Touch (v .thread t .own) (write (part (v .thread t .own) f))
+  change-own : (o : Out) → stageOf (standsAt (number l)) ≡ out o → (f : Field) → Touch (v .thread t .own) (write (v .thread t .own) f)
   change-own o e f =
       let m = mine (out o) e .node in
       change (v .thread t .own) (within m) f
       (own (sym m) (λ q. absurd (rw (stage-at (en .control) t _ (en .does .below) (en .does .stands), e) at q)))
 
-  change-cur : (w : Waiting) → stageOf (standsAt (number l)) ≡ wait w → waitRow w .linked ≡ false → (f : Field) → Touch (v .thread t .cur) (write (part (v .thread t .cur) f))
+  change-cur : (w : Waiting) → stageOf (standsAt (number l)) ≡ wait w → waitRow w .linked ≡ false → (f : Field) → Touch (v .thread t .cur) (write (v .thread t .cur) f)
   change-cur w e free f =
       let m = mine (wait w) e in
       change (v .thread t .cur) (within (m .node)) f (own (sym (m .node)) (λ q. m .facts .1 .linked ∙ free))
@@ -192,11 +192,11 @@ module _ {n h : ℕ} {v v′ : View} {g : Ledger} {t : ℕ} {l : Line} {request 
     tmp-within : v .thread t .tmp .0 ≤ n
     tmp-within = rw (mine (combine w) e .facts .1 .1 .serving) (node-bound (en .control) (g .r) (omega arith) swapped-in)
 
-    look-tmp : (f : Field) → Touch (v .thread t .tmp) (read (part (v .thread t .tmp) f))
+    look-tmp : (f : Field) → Touch (v .thread t .tmp) (read (v .thread t .tmp) f)
     look-tmp = look (v .thread t .tmp) tmp-within
 
     change-tmp : (f : Field) → T (not (among onlyHolders f)) → (T (among (Wait ∷ []) f) → v′ .node (v .thread t .tmp .0) .wait ≡ false)
-        → Touch (v .thread t .tmp) (write (part (v .thread t .tmp) f))
+        → Touch (v .thread t .tmp) (write (v .thread t .tmp) f)
     change-tmp f far lower =
         let m = mine (combine w) e .facts in
         change (v .thread t .tmp) tmp-within f (served (m .1 .1 .serving) (ap (g .who) (sym (m .1 .0 .turn)) ∙ m .0 .who) far lower)

@@ -1,4 +1,4 @@
--- A list of accesses: which copies it leaves, which it gives, and how many of it are remote. Assumes a thread below n, n at most 16 and copies of 86 places where a law says so.
+-- A list of accesses: which copies it leaves, which it gives, and how many of it are remote. Assumes a thread below n, n at most 16 and full copies where a law says so.
 use Prim.Native.Nat.{ℕ, _+_, _≤_, _<_}
 use native.Mathlib.Omega.{arith}
 use mathlib.Core.Path.{_≡_, refl, sym, _∙_, ap, subst}
@@ -11,10 +11,10 @@ use Rattle.machine.specs.declared.NodeId.{NodeId}
 use Rattle.machine.specs.declared.Field.{Field}
 use Rattle.machine.specs.declared.Field.the-variants.{Req}
 use Rattle.machine.specs.Fields.{fieldNumber, null}
-use Rattle.machine.specs.Accesses.{Location, tail, part, Access, read, write, swap}
+use Rattle.machine.specs.Accesses.{Access, read, write, swap, Location, tail, part, located}
 use Rattle.machine.specs.Sizes.{mostLocations}
 use Rattle.object.specs.Each.{Each}
-use Rattle.copies.specs.Remote.{place, located, hasCopyOf, remoteOf, copiesAfter, referred}
+use Rattle.copies.specs.Remote.{place, hasCopyOf, remoteOf, copiesAfter, referred}
 use Rattle.copies.proofs.Holding.{place-injective, elsewhere-kept, read-kept, own-held, Ends}
 use Rattle.invariant.specs.Remote.{among, Copied}
 use Rattle.object.proofs.Choice.{by-equal}
@@ -104,9 +104,9 @@ module _ (n t : ℕ) (k : t < n) (small : n ≤ 16) where
 
       apart : (a : Access) → place (located a) < length copies → (u ≡ t → ⊥) → ((u ≡ t → ⊥) → Ends a → ⊥) → hasCopyOf copies u (located a) ≡ true
           → hasCopyOf (copiesAfter n t a copies) u (located a) ≡ true
-      apart (read l) i d z h = read-kept n t copies l u i d ∙ h
-      apart (write l) i d z h = absurd (z d tt)
-      apart (swap l) i d z h = absurd (z d tt)
+      apart (read m f) i d z h = read-kept n t copies m f u i d ∙ h
+      apart (write m f) i d z h = absurd (z d tt)
+      apart swap i d z h = absurd (z d tt)
 
       here : x ≡ located a → hasCopyOf (copiesAfter n t a copies) u x ≡ true
       here e =

@@ -13,11 +13,11 @@ use Rattle.step.specs.Numbers.{number, standsAt}
 use Rattle.invariant.specs.Stages.{Stage, stageOf, queued, isThread}
 use Rattle.invariant.specs.Ledger.{Ledger}
 use Rattle.invariant.specs.View.{View, does, goal, Does}
-use Rattle.invariant.specs.Control.{slot, slotOfThread, held, NodeFields, StageFacts, Queued, Order, Seat, Control}
+use Rattle.invariant.specs.Control.{holding, slot, slotOfThread, held, NodeFields, StageFacts, Queued, Order, Seat, Control}
 use Rattle.object.proofs.Choice.{by-equal}
 use Rattle.invariant.proofs.Slots.{slot-thread, slot-same, atTurn, turn-queued}
 use Rattle.invariant.proofs.Waits.{waits-same, ltb-same}
-use Rattle.invariant.proofs.Seats.{holding, stage-at, holds, queued-slot, seats-apart, node-of, owner, whose, turn-at}
+use Rattle.invariant.proofs.Seats.{stage-at, holds, queued-slot, seats-apart, node-of, owner, whose, turn-at}
 use Rattle.invariant.proofs.Stable.{Grown, Rely, slot-stable, fields-same}
 
 -- where the thread of a line stands

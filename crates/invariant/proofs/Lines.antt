@@ -15,11 +15,11 @@ use Rattle.cc_synch.specs.Effect.{goes}
 use Rattle.invariant.specs.Stages.{queued}
 use Rattle.invariant.specs.Ledger.{Ledger, noted}
 use Rattle.invariant.specs.View.{View, Does}
-use Rattle.invariant.specs.Control.{slot, slotOfThread, NodeFields, StageFacts, Control}
+use Rattle.invariant.specs.Control.{holding, slot, slotOfThread, NodeFields, StageFacts, Control}
 use Rattle.object.proofs.Choice.{by-equal, by-order}
 use Rattle.invariant.proofs.Upd.{upd-same, upd-other}
 use Rattle.invariant.proofs.Waits.{waits-below, waits-turn, waits-free, waits-held}
-use Rattle.invariant.proofs.Seats.{holding, stage-at, known, seats-apart, fields-at, node-bound, linked-below}
+use Rattle.invariant.proofs.Seats.{stage-at, known, seats-apart, fields-at, node-bound, linked-below}
 use Rattle.invariant.proofs.Frame.{no-links, kept, wrote, from, home, far}
 use Rattle.invariant.proofs.Swap.{swap}
 

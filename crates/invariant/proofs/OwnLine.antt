@@ -1,4 +1,4 @@
--- Remote references of a thread's own line: from its stage's bound and copies to those of its next stage. Assumes Control, n at most 16, and copies of 86 places.
+-- Remote references of a thread's own line: from its stage's bound and copies to those of its next stage. Assumes Control, n at most 16, and full copies.
 use Prim.Native.Nat.{ℕ, _+_, _*_, _≤_, _<_}
 use native.Mathlib.Omega.{arith}
 use mathlib.Core.Path.{_≡_, refl, _∙_, ap, subst}
@@ -11,7 +11,7 @@ use Rattle.machine.specs.declared.NodeId.{NodeId}
 use Rattle.machine.specs.declared.Field.{Field}
 use Rattle.machine.specs.declared.Field.the-variants.{Req, Wait, Next}
 use Rattle.machine.specs.Fields.{isNull}
-use Rattle.machine.specs.Accesses.{part, read}
+use Rattle.machine.specs.Accesses.{read}
 use Rattle.cc_lines.specs.Lines.{Line, L0, L1, L2, L3, L4, L5, L6, L7, L8, L9, L10, L11, L12, L13, L14, L15, L16, L17, L18, L19, L20, L21}
 use Rattle.cc_synch.specs.Effect.{goes}
 use Rattle.step.specs.Numbers.{number, standsAt}
@@ -104,7 +104,7 @@ module _ {n h : ℕ} {v v′ : View} {g : Ledger} {t : ℕ} {request : Request} 
     own-line L6 en s = (at-cur en (s .0) (placed en) (omega arith) tt tt, absurd)
     own-line L7 en s = (at-cur en (s .0) (placed en) (omega arith) tt tt, absurd)
     own-line L8 en s =
-        (at-cur en (s .0) tt (omega arith) tt tt, λ _ _. omega (arith, s .0 .most, remote-most copies t (read (part (v .thread t .cur) Wait)) false absurd))
+        (at-cur en (s .0) tt (omega arith) tt tt, λ _ _. omega (arith, s .0 .most, remote-most copies t (read (v .thread t .cur) Wait) false absurd))
     own-line L9 en s = by-test (v .node (v .thread t .cur .0) .wait) refl
       where
         seen : Within (afterLine n v t copies L9 .copies) t (v .thread t .cur) (v .thread t .tmp) (cost + afterLine n v t copies L9 .remote) 8 (Req ∷ Next ∷ Wait ∷ []) []
@@ -115,7 +115,7 @@ module _ {n h : ℕ} {v v′ : View} {g : Ledger} {t : ℕ} {request : Request} 
         by-test true e =
             let now = s .1 tt e in (
               record { most = omega (arith, now); cur-copied = λ f x. seen .cur-copied f (among-all (Req ∷ Next ∷ []) (Req ∷ Next ∷ Wait ∷ []) tt f x); tmp-copied = seen .tmp-copied },
-              λ _ _. omega (arith, now, remote-most (afterLine n v t copies L9 .copies) t (read (part (v .thread t .cur) Wait)) true (seen .cur-copied Wait)),
+              λ _ _. omega (arith, now, remote-most (afterLine n v t copies L9 .copies) t (read (v .thread t .cur) Wait) true (seen .cur-copied Wait)),
             )
         by-test false e = (seen, absurd)
     own-line L10 en s = by-test (v .node (v .thread t .cur .0) .completed)

@@ -1,4 +1,4 @@
--- Every line keeps Remote; what a call has cost when it returns. Assumes Control and Remote before the line, n at most 16, and copies of 86 places.
+-- Every line keeps Remote; what a call has cost when it returns. Assumes Control and Remote before the line, n at most 16, and full copies.
 use Prim.Native.Nat.{ℕ, _+_, _*_, _≤_, _<_}
 use native.Mathlib.Omega.{arith}
 use mathlib.Core.Path.{_≡_, sym, _∙_, subst}
@@ -13,7 +13,7 @@ use Rattle.machine.specs.declared.NodeId.{NodeId}
 use Rattle.machine.specs.declared.Thread.{Thread}
 use Rattle.machine.specs.declared.Field.{Field}
 use Rattle.machine.specs.declared.Field.the-variants.{Req, Wait, Next}
-use Rattle.machine.specs.Accesses.{Location, part, read}
+use Rattle.machine.specs.Accesses.{read, Location, part, located}
 use Rattle.machine.specs.Sizes.{mostLocations}
 use Rattle.cc_lines.specs.Lines.{Line}
 use Rattle.step.specs.Numbers.{number, standsAt}
@@ -68,11 +68,12 @@ module _ {n h : ℕ} {v v′ : View} {g : Ledger} {t : ℕ} {l : Line} {request 
       within-kept (s .0) (λ f x. clear-fields en stand apart tt f (calm w f x)) (λ f x. absurd x),
       λ spins on.
           let clear = clear-wait en stand apart tt on in
-          let x = part (v .thread u .cur) Wait in
+          let a = read (v .thread u .cur) Wait in
+          let x = located a in
           omega (
             arith,
             s .1 spins (sym (wait-kept en (v .thread u .cur) clear) ∙ on),
-            remote-most (afterLine n v t copies l .copies) u (read x) (hasCopyOf copies u x) (λ b. other-kept x clear (is-true _ b)),
+            remote-most (afterLine n v t copies l .copies) u a (hasCopyOf copies u x) (λ b. other-kept x clear (is-true _ b)),
           ),
     )
     other-line cost (combine w) stand s = (

@@ -2,23 +2,18 @@
 use Prim.Native.Nat.{ℕ, _≤_, _<_}
 use native.Mathlib.Omega.{arith}
 use mathlib.Core.Path.{_≡_, sym, _∙_, ap, subst}
-use mathlib.Core.Bool.{true, cond, false≢true}
+use mathlib.Core.Bool.{true, false≢true}
 use lib.Dec.{T}
 use Rattle.object.specs.declared.Request.{Request}
 use Rattle.object.specs.declared.Answer.{Answer}
-use Rattle.machine.specs.declared.Thread.{Thread}
 use Rattle.cc_lines.specs.Lines.{Line}
 use Rattle.step.specs.Numbers.{number, standsAt}
-use Rattle.invariant.specs.Stages.{Stage, stageOf, queued}
+use Rattle.invariant.specs.Stages.{stageOf, queued}
 use Rattle.invariant.specs.Ledger.{Ledger}
 use Rattle.invariant.specs.View.{View, Does}
-use Rattle.invariant.specs.Control.{slot, slotOfThread, held, Queued, NodeFields, StageFacts, DummyFacts, Control}
+use Rattle.invariant.specs.Control.{holding, slot, slotOfThread, held, Queued, NodeFields, StageFacts, DummyFacts, Control}
 use Rattle.object.proofs.Choice.{by-equal}
 use Rattle.invariant.proofs.Slots.{slot-tail, slot-thread, held-queued, in-queue, at-swapped, at-turn, turn-queued, atTurn}
-
--- the node that a thread holds at a stage
-abbrev pub holding : Stage → Thread → ℕ
-holding l th = cond (queued l) (th .cur .0) (th .own .0)
 
 module _ {n h : ℕ} {v : View} {g : Ledger} (c : Control n h v g) where
   pub queued-slot : (u : ℕ) → u ≤ n → T (queued (slot n v u .stage)) → Queued g u (slot n v u .cur) (v .node (held (slot n v u)))

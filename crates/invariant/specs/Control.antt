@@ -34,7 +34,10 @@ slotOfTail tail = record { stage = dummy; own = tail; cur = tail; tmp = tail; tm
 unfoldable pub slot : ℕ → View → ℕ → Slot
 slot n v u = cond (eqb u n) (slotOfTail (v .tail .0)) (slotOfThread (v .thread u))
 
--- the node that a slot holds: its own before Swap, then curNode
+-- the node that a thread holds at a stage: its own before Swap, then curNode; and a slot's
+abbrev pub holding : Stage → Thread → ℕ
+holding s th = cond (queued s) (th .cur .0) (th .own .0)
+
 abbrev pub held : Slot → ℕ
 held x = cond (queued (x .stage)) (x .cur) (x .own)
 

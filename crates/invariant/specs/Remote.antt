@@ -9,7 +9,7 @@ use Rattle.machine.specs.declared.Thread.{Thread}
 use Rattle.machine.specs.declared.Field.{Field}
 use Rattle.machine.specs.declared.Field.the-variants.{Req, Ret, Wait, Completed, Next}
 use Rattle.machine.specs.Fields.{fieldNumber}
-use Rattle.machine.specs.Accesses.{part, read}
+use Rattle.machine.specs.Accesses.{read, part}
 use Rattle.copies.specs.Remote.{hasCopyOf, remoteOf}
 use Rattle.invariant.specs.Stages.{Stage, Out, Wait as Waiting, Combine, idle, o2, o3, o4, o5, w6, w7, w8, w9, w10, w11, w12, c13, c14, c15, c16, c17, c18, c20, out, wait, combine, l19, l21, dummy, stageOf}
 use Rattle.invariant.specs.View.{View}
@@ -87,7 +87,7 @@ abbrev pub Spent : Stage → List ℕ → ℕ → Thread → Bool → ℕ → Ty
 Spent (out o) copies u th waits cost = T (outRow o .begun) → cost ≤ outMost o
 Spent (wait w) copies u th waits cost =
     Within copies u (th .cur) (th .tmp) cost (waitCost w .most) (waitCost w .copied) []
-    × (T (waitCost w .spins) → waits ≡ true → cost + remoteOf copies u (read (part (th .cur) Wait)) ≤ 7)
+    × (T (waitCost w .spins) → waits ≡ true → cost + remoteOf copies u (read (th .cur) Wait) ≤ 7)
 Spent (combine c) copies u th waits cost = Rounds (Within copies u (th .cur) (th .tmp) cost) c (th .served)
 Spent l19 copies u th waits cost = Within copies u (th .cur) (th .tmp) cost (5 * th .served + 5) (Ret ∷ []) []
 Spent l21 copies u th waits cost = Within copies u (th .cur) (th .tmp) cost (5 * th .served + 7) (Ret ∷ []) []

@@ -15,22 +15,28 @@ pointed Own th = th .own
 pointed Cur th = th .cur
 pointed Tmp th = th .tmp
 
+-- an access reads or writes one field of one node, or swaps Tail
+pub data Access : Type 0 where
+  read : NodeId → Field → Access
+  write : NodeId → Field → Access
+  swap : Access
+
 -- a location is Tail or one field of one node
 pub data Location : Type 0 where
   tail : Location
   part : NodeId → Field → Location
 
--- an access reads, writes or swaps a location
-pub data Access : Type 0 where
-  read : Location → Access
-  write : Location → Access
-  swap : Location → Access
+-- the location of an access
+abbrev pub located : Access → Location
+located (read node field) = part node field
+located (write node field) = part node field
+located swap = tail
 
 abbrev pub accessTo : NodeId → SharedAccess → List Access
 accessTo node NoAccess = []
-accessTo node (Read field) = read (part node field) ∷ []
-accessTo node (Write field) = write (part node field) ∷ []
-accessTo node Swap = swap tail ∷ []
+accessTo node (Read field) = read node field ∷ []
+accessTo node (Write field) = write node field ∷ []
+accessTo node Swap = swap ∷ []
 
 -- the accesses of a line, in order: the only source of remote references
 abbrev pub accessesOf : Row → NodeId → List Access

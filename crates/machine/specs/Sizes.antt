@@ -5,9 +5,12 @@ use Prim.Native.Nat.{ℕ, _+_, _*_}
 abbrev pub mostNodes : ℕ
 mostNodes = 17
 
--- Tail, and five fields of each node
+-- the locations of a machine with so many nodes: Tail, and five fields of each
+abbrev pub locationsOf : ℕ → ℕ
+locationsOf nodes = 1 + 5 * nodes
+
 abbrev pub mostLocations : ℕ
-mostLocations = 1 + 5 * mostNodes
+mostLocations = locationsOf mostNodes
 
 -- places of calls, 16 for each thread
 abbrev pub mostCalls : ℕ

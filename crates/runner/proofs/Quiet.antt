@@ -9,13 +9,14 @@ use lib.ListN.{length, getD, set}
 use lib.Seq.{set-getD}
 use Rattle.object.specs.Each.{Each}
 use Rattle.object.specs.declared.Kind.{Kind}
+use Rattle.machine.specs.declared.Field.{Field}
 use Rattle.machine.specs.declared.Field.the-variants.{Wait}
 use Rattle.machine.specs.declared.Event.{Event}
 use Rattle.machine.specs.declared.Event.the-variants.{Blank, CallBegins, Swaps, TurnBegins, Applies, Returns, Spins}
 use Rattle.machine.specs.declared.NodeId.{NodeId}
 use Rattle.machine.specs.declared.Row.{Row}
 use Rattle.machine.specs.declared.ThreadId.{ThreadId}
-use Rattle.machine.specs.Accesses.{Location, part, read, accessesOf}
+use Rattle.machine.specs.Accesses.{read, located, accessesOf}
 use Rattle.machine.specs.Events.{sameEvent}
 use Rattle.cc_lines.specs.Lines.{Line, L0, L9, printed, lineOf, rowOf, eventIn}
 use Rattle.cc_synch.specs.Effect.{executed}
@@ -81,17 +82,18 @@ blank-quiet s t blank = record {
     no-reference = ap (λ (l : Line). referred (s .n) (t .0) (s .copies) (accessesOf (rowOf l) (target s t))) none
 
 -- a read by a thread that has a copy is not remote and leaves the copies as they are
-held-read : (n t : ℕ) (copies : List ℕ) (l : Location) → hasCopyOf copies t l ≡ true → referred n t copies (read l ∷ []) ≡ record { remote = 0; copies = copies }
-held-read n t copies l held = rw (held, add-zero, set-getD)
+held-read : (n t : ℕ) (copies : List ℕ) (m : NodeId) (f : Field) → hasCopyOf copies t (located (read m f)) ≡ true
+    → referred n t copies (read m f ∷ []) ≡ record { remote = 0; copies = copies }
+held-read n t copies m f held = rw (held, add-zero, set-getD)
 
 -- an entry of the row that spins, where it finds wait true and its thread has a copy
 pub record Spinning (s : State) (t : ThreadId) : Type 0 where
   pub spins : sameEvent (row s t .event) Spins ≡ true
   pub waits : node s t .wait ≡ true
-  pub held : hasCopyOf (s .copies) (t .0) (part (target s t) Wait) ≡ true
+  pub held : hasCopyOf (s .copies) (t .0) (located (read (target s t) Wait)) ≡ true
 
 -- as the tests for it say, of the row's node and the place of its wait among the copies
-pub spinning : (s : State) (t : ThreadId) {m : NodeId} {at : ℕ} (has : Bool) → sameEvent (row s t .event) Spins ≡ true → m ≡ target s t → at ≡ copyPlace (part m Wait)
+pub spinning : (s : State) (t : ThreadId) {m : NodeId} {at : ℕ} (has : Bool) → sameEvent (row s t .event) Spins ≡ true → m ≡ target s t → at ≡ copyPlace (located (read m Wait))
     → has ≡ hasCopy (getD (s .copies) at 0) (t .0) → (getD (s .nodes) (m .0) zeroNode .wait && has) ≡ true → Spinning s t
 spinning s t {m} has spins is placed copy both =
     let found = and-eq-true-iff (getD (s .nodes) (m .0) zeroNode .wait) has .0 both in
@@ -112,7 +114,7 @@ module _ (s : State) (t : ThreadId) (sound : Sound s) (small : t .0 < s .n) (spi
   held : references s t ≡ record { remote = 0; copies = s .copies }
   held =
       ap (λ (l : Line). referred (s .n) (t .0) (s .copies) (accessesOf (rowOf l) (target s t))) nine
-      ∙ held-read (s .n) (t .0) (s .copies) (part (target s t) Wait) (spinning .held)
+      ∙ held-read (s .n) (t .0) (s .copies) (target s t) Wait (spinning .held)
 
   spins-now : event s t ≡ Spins
   spins-now = ap (λ (l : Line). eventIn (rowOf l .event) (node s t)) nine ∙ rw (spinning .waits)

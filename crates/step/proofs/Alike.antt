@@ -27,16 +27,17 @@ use Rattle.machine.specs.declared.Thread.{Thread}
 use Rattle.machine.specs.declared.SharedAccess.{SharedAccess}
 use Rattle.machine.specs.declared.SharedAccess.the-variants.{NoAccess, Read, Write, Swap}
 use Rattle.machine.specs.declared.Row.{Row}
-use Rattle.machine.specs.Accesses.{Access, read, write, swap, accessTo, accessesOf}
+use Rattle.machine.specs.Accesses.{Access, read, write, swap, located, accessTo, accessesOf}
+use Rattle.machine.specs.Sizes.{locationsOf, mostLocations}
 use Rattle.cc_lines.specs.Lines.{lineOf, lineRun}
 use Rattle.cc_synch.specs.Effect.{executed}
-use Rattle.copies.specs.Remote.{place, located, hasCopyOf, copiesAfter, referred}
+use Rattle.copies.specs.Remote.{place, hasCopyOf, copiesAfter, referred}
 use Rattle.copies.proofs.Holding.{field-number-below, place-injective, Ends, elsewhere-kept, read-kept, own-held, others-ended}
 use Rattle.state.specs.declared.Slot.{Slot}
 use Rattle.state.specs.Range.{reqInRange, slotInRange, rowOfThread, rowsInRange}
 use Rattle.state.proofs.RangeFacts.{Begun}
 use Rattle.step.specs.Entry.{zeroThread, servedBy}
-use Rattle.step.specs.Past.{placesTo, SameCopies}
+use Rattle.step.specs.Past.{SameCopies}
 
 -- lists with the same first n have the same at each of these places
 pub same-at : {A : Type 0} (n : ℕ) (xs ys : List A) → take n xs ≡ take n ys → (i : ℕ) (d : A) → i < n → getD xs i d ≡ getD ys i d
@@ -59,7 +60,7 @@ same-rows kind requests requests′ i (suc n) (th ∷ ths) f =
 
 -- an access to Tail or to a node up to n
 abbrev pub Near : ℕ → Access → Type 0
-Near n a = place (located a) < placesTo n
+Near n a = place (located a) < locationsOf (n + 1)
 
 module _ (n : ℕ) (m : NodeId) (up-to : m .0 ≤ n) where
   -- the accesses of a line that points to such a node are near
@@ -74,7 +75,7 @@ module _ (n : ℕ) (m : NodeId) (up-to : m .0 ≤ n) where
 
 -- copies that are the same as far as n goes are so after one access of a thread below n
 module _ (n t : ℕ) (below : t < n) (few : n ≤ 16) where
-  module _ (c c′ : List ℕ) (full : length c ≡ 86) (full′ : length c′ ≡ 86) (same : SameCopies n c c′) where
+  module _ (c c′ : List ℕ) (full : length c ≡ mostLocations) (full′ : length c′ ≡ mostLocations) (same : SameCopies n c c′) where
     both-ended : (a : Access) → Ends a → Near n a → (u : ℕ) → u < n → (u ≡ t → ⊥)
         → hasCopyOf (copiesAfter n t a c) u (located a) ≡ hasCopyOf (copiesAfter n t a c′) u (located a)
     both-ended a r q u h d =
@@ -82,9 +83,9 @@ module _ (n t : ℕ) (below : t < n) (few : n ≤ 16) where
 
     same-here : (a : Access) → Near n a → (u : ℕ) → u < n → (u ≡ t → ⊥)
         → hasCopyOf (copiesAfter n t a c) u (located a) ≡ hasCopyOf (copiesAfter n t a c′) u (located a)
-    same-here (read l) q u h d = read-kept n t c l u (omega arith) d ∙ same u h l q ∙ sym (read-kept n t c′ l u (omega arith) d)
-    same-here (write l) q u h d = both-ended (write l) tt q u h d
-    same-here (swap l) q u h d = both-ended (swap l) tt q u h d
+    same-here (read m f) q u h d = read-kept n t c m f u (omega arith) d ∙ same u h (located (read m f)) q ∙ sym (read-kept n t c′ m f u (omega arith) d)
+    same-here (write m f) q u h d = both-ended (write m f) tt q u h d
+    same-here swap q u h d = both-ended swap tt q u h d
 
     same-after : (a : Access) → Near n a → SameCopies n (copiesAfter n t a c) (copiesAfter n t a c′)
     same-after a q u h l k =
@@ -99,7 +100,7 @@ module _ (n t : ℕ) (below : t < n) (few : n ≤ 16) where
         ]
 
   -- and after a list of them, of which as many are remote
-  pub same-referred : (accesses : List Access) → Each (Near n) accesses → (c c′ : List ℕ) → length c ≡ 86 → length c′ ≡ 86 → SameCopies n c c′
+  pub same-referred : (accesses : List Access) → Each (Near n) accesses → (c c′ : List ℕ) → length c ≡ mostLocations → length c′ ≡ mostLocations → SameCopies n c c′
       → (referred n t c accesses .remote ≡ referred n t c′ accesses .remote) × SameCopies n (referred n t c accesses .copies) (referred n t c′ accesses .copies)
   same-referred [] near c c′ full full′ same = (refl, same)
   same-referred (a ∷ accesses) near c c′ full full′ same =

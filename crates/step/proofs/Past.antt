@@ -17,12 +17,13 @@ use Rattle.object.proofs.Plainly.{PastHeld, past-held, HoldSame, AnswerSame}
 use Rattle.machine.specs.declared.ThreadId.{ThreadId}
 use Rattle.machine.specs.declared.Thread.{Thread}
 use Rattle.machine.specs.declared.Effect.{Effect}
-use Rattle.machine.specs.Accesses.{Access, read, write, swap, pointed}
+use Rattle.machine.specs.Accesses.{Access, read, write, swap, located, pointed}
 use Rattle.machine.specs.Events.{sameEvent}
+use Rattle.machine.specs.Sizes.{locationsOf}
 use Rattle.machine.specs.declared.Event.the-variants.{Applies}
 use Rattle.cc_lines.specs.Lines.{lineOf, lineRun, rowOf}
 use Rattle.cc_synch.specs.Effect.{takesOut}
-use Rattle.copies.specs.Remote.{place, located, hasCopyOf, wordAfter, copiesAfter, referred}
+use Rattle.copies.specs.Remote.{place, hasCopyOf, wordAfter, copiesAfter, referred}
 use Rattle.copies.proofs.Valid.{read-past, write-past}
 use Rattle.state.specs.declared.Slot.{Slot}
 use Rattle.state.specs.declared.Counts.{Counts}
@@ -33,7 +34,7 @@ use Rattle.state.proofs.RangeFacts.{state-fits}
 use Rattle.step.specs.declared.Stepped.{Stepped}
 use Rattle.step.specs.Entry.{zeroThread, zeroNode, zeroSlot, named, line, row, target, node, event, request, applied, effect, accesses, references, countsAfter, entered}
 use Rattle.step.specs.Step.{refused, goesThrough, outcomeOf, stepOf}
-use Rattle.step.specs.Past.{placesTo, copiesFrom, PastKept, SameCopies, Agree}
+use Rattle.step.specs.Past.{copiesFrom, PastKept, SameCopies, Agree}
 use Rattle.step.proofs.Outcome.{applied-keeps, thread-fits, target-in-range, node-fits, leaves, goes-through-exactly}
 use Rattle.step.proofs.Alike.{same-at, same-set, same-rows, Near, near-of, same-referred, same-served, same-executed}
 
@@ -46,9 +47,9 @@ after-all P n t copies (a ∷ accesses) each p = after-all P n t (copiesAfter n 
 module _ (n t : ℕ) (below : t < n) where
   -- an access of a thread below n keeps the copies of the threads from n on
   word-kept : (a : Access) (word : ℕ) → wordAfter n t a word / 2 ^ n ≡ word / 2 ^ n
-  word-kept (read l) word = read-past word t n below
-  word-kept (write l) word = write-past n word t
-  word-kept (swap l) word = write-past n word t
+  word-kept (read m f) word = read-past word t n below
+  word-kept (write m f) word = write-past n word t
+  word-kept swap word = write-past n word t
 
   threads-kept : (a : Access) (copies : List ℕ) → copiesFrom n (copiesAfter n t a copies) ≡ copiesFrom n copies
   threads-kept a copies = map-set-same (λ word. word / 2 ^ n) copies (place (located a)) _ 0 (word-kept a (getD copies (place (located a)) 0))
@@ -83,8 +84,8 @@ module _ (s : State) (t : ThreadId) where
           after-all (λ copies. copiesFrom (s .n) copies ≡ copiesFrom (s .n) (s .copies)) (s .n) (t .0) (s .copies) (accesses s t)
           (each-map (λ a q copies e. threads-kept (s .n) (t .0) below a copies ∙ e) (accesses s t) near) refl;
       locations =
-          after-all (λ copies. drop (placesTo (s .n)) copies ≡ drop (placesTo (s .n)) (s .copies)) (s .n) (t .0) (s .copies) (accesses s t)
-          (each-map (λ a q copies e. drop-set-lt (placesTo (s .n)) copies (place (located a)) _ q ∙ e) (accesses s t) near) refl;
+          after-all (λ copies. drop (locationsOf (s .n + 1)) copies ≡ drop (locationsOf (s .n + 1)) (s .copies)) (s .n) (t .0) (s .copies) (accesses s t)
+          (each-map (λ a q copies e. drop-set-lt (locationsOf (s .n + 1)) copies (place (located a)) _ q ∙ e) (accesses s t) near) refl;
       items =
           applied-keeps (λ answer. PastHeld (s .object)) (event s t) (s .kind) (s .capacity) (s .object) (node s t .req) refl
           (λ request. past-held (s .kind) (s .capacity) (s .object) request (shaped .items));

@@ -1,17 +1,14 @@
 -- What lies past n, a thread's count or the items held, which a single step neither changes nor judges: document 01, 'A single step judges 14 ..'.
-use Prim.Native.Nat.{ℕ, _+_, _*_, _/_, _^_, _<_}
+use Prim.Native.Nat.{ℕ, _+_, _/_, _^_, _<_}
 use mathlib.Core.Path.{_≡_}
 use mathlib.Core.List.{List, map}
 use lib.ListN.{getD, take, drop}
 use Rattle.machine.specs.Accesses.{Location}
+use Rattle.machine.specs.Sizes.{locationsOf}
 use Rattle.copies.specs.Remote.{place, hasCopyOf}
 use Rattle.state.specs.declared.State.{State}
 use Rattle.state.specs.Range.{rowOfThread}
 use Rattle.step.specs.Entry.{zeroThread}
-
--- how many places the copies of Tail and of nodes 0 to n take
-abbrev pub placesTo : ℕ → ℕ
-placesTo n = 1 + 5 * (n + 1)
 
 -- of each location the copies that threads from n on have
 abbrev pub copiesFrom : ℕ → List ℕ → List ℕ
@@ -26,13 +23,13 @@ pub record PastKept (s s′ : State) : Type 0 where
   pub requests : s′ .requests ≡ s .requests
   -- the copies of threads from n on, and those of nodes past n
   pub copies : copiesFrom (s .n) (s′ .copies) ≡ copiesFrom (s .n) (s .copies)
-  pub locations : drop (placesTo (s .n)) (s′ .copies) ≡ drop (placesTo (s .n)) (s .copies)
+  pub locations : drop (locationsOf (s .n + 1)) (s′ .copies) ≡ drop (locationsOf (s .n + 1)) (s .copies)
   -- the items past those held after the step: a put writes the first place past those held before it, which it then holds
   pub items : drop (s′ .object .held) (s′ .object .items) ≡ drop (s′ .object .held) (s .object .items)
 
 -- each thread below n has a valid copy in both or in neither, of Tail and of each field of nodes 0 to n
 abbrev pub SameCopies : ℕ → List ℕ → List ℕ → Type 0
-SameCopies n copies copies′ = (t : ℕ) → t < n → (l : Location) → place l < placesTo n → hasCopyOf copies t l ≡ hasCopyOf copies′ t l
+SameCopies n copies copies′ = (t : ℕ) → t < n → (l : Location) → place l < locationsOf (n + 1) → hasCopyOf copies t l ≡ hasCopyOf copies′ t l
 
 -- not judged: two states that agree within these limits differ at most past them
 pub record Agree (s s′ : State) : Type 0 where

@@ -1,5 +1,5 @@
 -- `copies::refer` meets its contract: each access is one or none. Assumes nothing.
-use Rattle.machine.specs.Accesses.{part, tail, read, write, swap}
+use Rattle.machine.specs.Accesses.{read, write, swap}
 use borrow.Author.Needs.{needs}
 use mathlib.Core.Path.{refl}
 use native.Mathlib.Omega.{arith}
@@ -45,7 +45,7 @@ returns-2 c =
     let a = c .before .before .before .before .before .before .before .before .before .args in
     let f = c .before .before .before .before .before .before .access .given in
     let e = c .before .before .refer-at .ensures in
-    rw (f .1) (one-referred (a .n) (a .thread .0) (a .copies .now) (c .before .before .before .place .result) (read (part (a .node) (f .0 .0))) (c .before .before .before .place .ensures) (e .0) (e .1))
+    rw (f .1) (one-referred (a .n) (a .thread .0) (a .copies .now) (c .before .before .before .place .result) (read (a .node) (f .0 .0)) (c .before .before .before .place .ensures) (e .0) (e .1))
 
 same-length-2 : tie.Need-same-length-2
 same-length-2 c = search needs
@@ -55,7 +55,7 @@ returns-3 c =
     let a = c .before .before .before .before .before .before .before .before .before .args in
     let f = c .before .before .before .before .before .before .access2 .given in
     let e = c .before .before .refer-at2 .ensures in
-    rw (f .1) (one-referred (a .n) (a .thread .0) (a .copies .now) (c .before .before .before .place2 .result) (write (part (a .node) (f .0 .0))) (c .before .before .before .place2 .ensures) (e .0) (e .1))
+    rw (f .1) (one-referred (a .n) (a .thread .0) (a .copies .now) (c .before .before .before .place2 .result) (write (a .node) (f .0 .0)) (c .before .before .before .place2 .ensures) (e .0) (e .1))
 
 same-length-3 : tie.Need-same-length-3
 same-length-3 c = search needs
@@ -64,7 +64,7 @@ returns-4 : tie.Need-returns-4
 returns-4 c =
     let a = c .before .before .before .before .before .before .before .args in
     let e = c .before .before .refer-at3 .ensures in
-    rw (c .before .before .before .before .enum-told2 .given .1) (one-referred (a .n) (a .thread .0) (a .copies .now) 0 (swap tail) refl (e .0) (e .1))
+    rw (c .before .before .before .before .enum-told2 .given .1) (one-referred (a .n) (a .thread .0) (a .copies .now) 0 swap refl (e .0) (e .1))
 
 pub refer-spec : {M : Type 1} → statement M
 refer-spec =

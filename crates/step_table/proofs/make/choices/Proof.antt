@@ -1,14 +1,15 @@
--- `step_table::make::choices` is safe and ends: `i` is at most 86. Assumes nothing.
+-- `step_table::make::choices` is safe and ends: `i` is at most the number of locations. Assumes nothing.
 use Prim.Native.Nat.{_≤_, _-_}
 use borrow.Author.Needs.{needs}
+use Rattle.machine.specs.Sizes.{mostLocations}
 use Rattle.step_table.proofs.make.choices.Statement.{statement}
 use Rattle.step_table.proofs.make.choices.Tie as tie
 
 abbrev Inv-loop : tie.InvT-loop
-Inv-loop first copies₀ low₀ i₀ copies low i = i ≤ 86
+Inv-loop first copies₀ low₀ i₀ copies low i = i ≤ mostLocations
 
 abbrev μ-loop : tie.MeasureT-loop
-μ-loop first copies₀ low₀ i₀ copies low i = 86 - i
+μ-loop first copies₀ low₀ i₀ copies low i = mostLocations - i
 
 loop-holds : tie.Need-loop-holds Inv-loop μ-loop
 loop-holds c = search needs

@@ -1,14 +1,15 @@
--- `step_table::show::copies` is safe and ends: `i` is at most 86. Assumes nothing.
+-- `step_table::show::copies` is safe and ends: `i` is at most the number of locations. Assumes nothing.
 use Prim.Native.Nat.{_≤_, _-_}
 use borrow.Author.Needs.{needs}
+use Rattle.machine.specs.Sizes.{mostLocations}
 use Rattle.step_table.proofs.show.copies.Statement.{statement}
 use Rattle.step_table.proofs.show.copies.Tie as tie
 
 abbrev Inv-loop : tie.InvT-loop
-Inv-loop a b i₀ t6 t7 i = i ≤ 86
+Inv-loop a b i₀ t6 t7 i = i ≤ mostLocations
 
 abbrev μ-loop : tie.MeasureT-loop
-μ-loop a b i₀ t6 t7 i = 86 - i
+μ-loop a b i₀ t6 t7 i = mostLocations - i
 
 loop-holds : tie.Need-loop-holds Inv-loop μ-loop
 loop-holds c = search needs
