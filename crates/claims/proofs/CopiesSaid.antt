@@ -12,6 +12,7 @@ use Rattle.machine.specs.Sizes.{mostLocations}
 use Rattle.cc_lines.specs.Lines.{Line, lineOf, rowOf}
 use Rattle.copies.specs.Copies.{hasCopy}
 use Rattle.copies.specs.Remote.{place, hasCopyOf}
+use Rattle.copies.proofs.Holding.{Inside}
 use Rattle.copies.proofs.Valid.{none-held}
 use Rattle.state.specs.declared.State.{State}
 use Rattle.state.proofs.RangeFacts.{state-fits}
@@ -21,7 +22,7 @@ use Rattle.step.proofs.Outcome.{target-in-range}
 use Rattle.step.proofs.Soundness.{Sound}
 use Rattle.history.specs.Entries.{Entry, threadId}
 use Rattle.history.specs.Copies.{copyAfter, validCopy, remoteSaid}
-use Rattle.history.proofs.Copies.{Inside, said-same, all-after, remote-marks}
+use Rattle.history.proofs.Copies.{said-same, all-after, remote-marks}
 use Rattle.claims.specs.Entries.{entryOf}
 use Rattle.claims.proofs.Filled.{padded}
 

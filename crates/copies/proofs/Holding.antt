@@ -2,17 +2,19 @@
 use Prim.Native.Nat.{ℕ, _<_, _≤_}
 use native.Mathlib.Omega.{arith}
 use mathlib.Core.Path.{_≡_, refl, sym, ap, ap₂, _∙_}
-use mathlib.Core.Bool.{true, false}
+use mathlib.Core.Bool.{Bool, true, false, cond, _&&_, _||_, false≢true}
 use mathlib.Core.List.{List, [], _∷_}
 use lib.ListN.{getD, length}
+use lib.Dec.{T, eqb}
 use lib.Seq.{getD-set-same, getD-set-other}
+use borrow.Author.Tests.{eqb-true, eqb-false}
 use Rattle.machine.specs.declared.Field.{Field}
 use Rattle.machine.specs.declared.Field.the-variants.{Req, Ret, Wait, Completed, Next}
 use Rattle.machine.specs.Fields.{fieldNumber}
 use Rattle.machine.specs.declared.NodeId.{NodeId}
 use Rattle.machine.specs.Accesses.{Access, read, write, swap, Location, tail, part, located}
 use Rattle.copies.specs.Copies.{hasCopy}
-use Rattle.copies.specs.Remote.{place, hasCopyOf, wordAfter, copiesAfter}
+use Rattle.copies.specs.Remote.{place, hasCopyOf, ends, wordAfter, copiesAfter}
 use Rattle.copies.proofs.Valid.{read-holds, read-keeps, write-holds, write-ends}
 
 -- a node has five fields
@@ -43,11 +45,12 @@ place-injective (part m f) (part m′ g) e =
     let number : fieldNumber f ≡ fieldNumber g = omega (arith, field-number-below f, field-number-below g) in
     ap₂ part (ap (λ (k : ℕ). record { 0 = k }) node) (sym (field-at f) ∙ ap fieldAt number ∙ field-at g)
 
--- an access that ends the copies of the other threads
+-- an access that ends the other threads' copies, and one whose location has a place among the copies
 abbrev pub Ends : Access → Type 0
-Ends (read m f) = ⊥
-Ends (write m f) = Unit
-Ends swap = Unit
+Ends a = T (ends a)
+
+abbrev pub Inside : List ℕ → Access → Type 0
+Inside copies a = place (located a) < length copies
 
 module _ (n t : ℕ) (copies : List ℕ) where
   -- the copies of another location are as they were
@@ -55,24 +58,50 @@ module _ (n t : ℕ) (copies : List ℕ) where
   elsewhere-kept a u l d =
       ap (λ (w : ℕ). hasCopy w u) (getD-set-other copies (place (located a)) (place l) _ 0 (λ e. d (place-injective l (located a) e)))
 
-  here : (a : Access) (u : ℕ) → place (located a) < length copies
+  here : (a : Access) (u : ℕ) → Inside copies a
       → hasCopyOf (copiesAfter n t a copies) u (located a) ≡ hasCopy (wordAfter n t a (getD copies (place (located a)) 0)) u
   here a u h = ap (λ (w : ℕ). hasCopy w u) (getD-set-same copies (place (located a)) _ 0 h)
 
   -- a read keeps the other threads' copies of its location
-  pub read-kept : (m : NodeId) (f : Field) → let l = located (read m f) in (u : ℕ) → place l < length copies → (u ≡ t → ⊥)
+  pub read-kept : (m : NodeId) (f : Field) → let l = located (read m f) in (u : ℕ) → Inside copies (read m f) → (u ≡ t → ⊥)
       → hasCopyOf (copiesAfter n t (read m f) copies) u l ≡ hasCopyOf copies u l
   read-kept m f u h d = here (read m f) u h ∙ read-keeps _ t u d
 
   module _ (k : t < n) (m : n ≤ 16) where
     -- the thread has a copy of the location of its access
-    pub own-held : (a : Access) → place (located a) < length copies → hasCopyOf (copiesAfter n t a copies) t (located a) ≡ true
+    pub own-held : (a : Access) → Inside copies a → hasCopyOf (copiesAfter n t a copies) t (located a) ≡ true
     own-held (read node f) h = here (read node f) t h ∙ read-holds _ t (omega arith)
     own-held (write node f) h = here (write node f) t h ∙ write-holds n _ t k m
     own-held swap h = here swap t h ∙ write-holds n _ t k m
 
     -- a write or Swap ends the copy of each other thread of the n
-    pub others-ended : (a : Access) → Ends a → (u : ℕ) → place (located a) < length copies → u < n → (u ≡ t → ⊥) → hasCopyOf (copiesAfter n t a copies) u (located a) ≡ false
+    pub others-ended : (a : Access) → Ends a → (u : ℕ) → Inside copies a → u < n → (u ≡ t → ⊥) → hasCopyOf (copiesAfter n t a copies) u (located a) ≡ false
     others-ended (read node f) r u h b d = absurd r
     others-ended (write node f) r u h b d = here (write node f) u h ∙ write-ends n _ t k m u b d
     others-ended swap r u h b d = here swap u h ∙ write-ends n _ t k m u b d
+
+    -- what thread u of the n has of a location after thread t's access: of the access's own, t has a copy, and no other has one that the access ends; of any
+    -- other it has what it had
+    module _ (a : Access) (inside : Inside copies a) (u : ℕ) (exists : u < n) where
+      other : eqb t u ≡ false → u ≡ t → ⊥
+      other e q = eqb-false t u e (sym q)
+
+      by-thread : (mine ended : Bool) → eqb t u ≡ mine → ends a ≡ ended
+          → hasCopyOf (copiesAfter n t a copies) u (located a) ≡ cond (mine || ended) mine (hasCopyOf copies u (located a))
+      by-thread true ended e f = rw (sym (eqb-true t u e)) (own-held a inside)
+      by-thread false true e f = others-ended a (rw f tt) u inside exists (other e)
+      by-thread false false e f = left a inside f
+        where
+          left : (a : Access) → Inside copies a → ends a ≡ false → hasCopyOf (copiesAfter n t a copies) u (located a) ≡ hasCopyOf copies u (located a)
+          left (read node f) inside f′ = read-kept node f u inside (other e)
+          left (write node f) inside f′ = absurd (false≢true (sym f′))
+          left swap inside f′ = absurd (false≢true (sym f′))
+
+      by-place : (l : Location) (same : Bool) → eqb (place (located a)) (place l) ≡ same
+          → hasCopyOf (copiesAfter n t a copies) u l ≡ cond (same && (eqb t u || ends a)) (eqb t u) (hasCopyOf copies u l)
+      by-place l true e = rw (place-injective l (located a) (sym (eqb-true _ _ e))) (by-thread _ _ refl refl)
+      by-place l false e = elsewhere-kept a u l (λ q. eqb-false _ _ e (sym (ap place q)))
+
+      pub copy-after : (l : Location)
+          → hasCopyOf (copiesAfter n t a copies) u l ≡ cond (eqb (place (located a)) (place l) && (eqb t u || ends a)) (eqb t u) (hasCopyOf copies u l)
+      copy-after l = by-place l _ refl

@@ -22,7 +22,13 @@ hasCopyOf copies t l = hasCopy (getD copies (place l) 0) t
 abbrev pub remoteOf : List ℕ → ℕ → Access → ℕ
 remoteOf copies t access = cond (hasCopyOf copies t (located access)) 0 1
 
--- afterwards the thread has a copy; a write or Swap ends every other thread's, of n threads
+-- a write or Swap ends the other threads' copies of its location
+abbrev pub ends : Access → Bool
+ends (read node field) = false
+ends (write node field) = true
+ends swap = true
+
+-- afterwards the thread has a copy, and where the access ends the others', of n threads no other has
 abbrev pub wordAfter : ℕ → ℕ → Access → ℕ → ℕ
 wordAfter n t (read node field) word = afterRead word t
 wordAfter n t (write node field) word = afterWrite n word t

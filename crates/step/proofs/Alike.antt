@@ -5,11 +5,11 @@ use native.Mathlib.Omega.{arith}
 use native.Mathlib.Decide.{ℕ-discrete}
 use native.Mathlib.Nat.{add-zero}
 use mathlib.Core.Path.{_≡_, refl, sym, ap, ap₂, subst, _∙_}
-use mathlib.Core.Bool.{Bool, true, false, cond, _&&_}
+use mathlib.Core.Bool.{Bool, true, false, cond, _&&_, _||_}
 use mathlib.Core.List.{List, [], _∷_}
 use lib.ListN.{length, getD, take, set, length-set}
 use lib.Seq.{getD-take, take-set-lt}
-use lib.Dec.{T, ltb}
+use lib.Dec.{T, ltb, eqb}
 use Rattle.object.specs.declared.Kind.{Kind}
 use Rattle.object.specs.declared.Request.{Request}
 use Rattle.object.specs.declared.Answer.{Answer}
@@ -27,12 +27,12 @@ use Rattle.machine.specs.declared.Thread.{Thread}
 use Rattle.machine.specs.declared.SharedAccess.{SharedAccess}
 use Rattle.machine.specs.declared.SharedAccess.the-variants.{NoAccess, Read, Write, Swap}
 use Rattle.machine.specs.declared.Row.{Row}
-use Rattle.machine.specs.Accesses.{Access, read, write, swap, located, accessTo, accessesOf}
+use Rattle.machine.specs.Accesses.{Access, located, accessTo, accessesOf}
 use Rattle.machine.specs.Sizes.{locationsOf, mostLocations}
 use Rattle.cc_lines.specs.Lines.{lineOf, lineRun}
 use Rattle.cc_synch.specs.Effect.{executed}
-use Rattle.copies.specs.Remote.{place, hasCopyOf, copiesAfter, referred}
-use Rattle.copies.proofs.Holding.{field-number-below, place-injective, Ends, elsewhere-kept, read-kept, own-held, others-ended}
+use Rattle.copies.specs.Remote.{place, ends, copiesAfter, referred}
+use Rattle.copies.proofs.Holding.{field-number-below, copy-after}
 use Rattle.state.specs.declared.Slot.{Slot}
 use Rattle.state.specs.Range.{reqInRange, slotInRange, rowOfThread, rowsInRange}
 use Rattle.state.proofs.RangeFacts.{Begun}
@@ -76,28 +76,11 @@ module _ (n : ℕ) (m : NodeId) (up-to : m .0 ≤ n) where
 -- copies that are the same as far as n goes are so after one access of a thread below n
 module _ (n t : ℕ) (below : t < n) (few : n ≤ 16) where
   module _ (c c′ : List ℕ) (full : length c ≡ mostLocations) (full′ : length c′ ≡ mostLocations) (same : SameCopies n c c′) where
-    both-ended : (a : Access) → Ends a → Near n a → (u : ℕ) → u < n → (u ≡ t → ⊥)
-        → hasCopyOf (copiesAfter n t a c) u (located a) ≡ hasCopyOf (copiesAfter n t a c′) u (located a)
-    both-ended a r q u h d =
-        others-ended n t c below few a r u (omega arith) h d ∙ sym (others-ended n t c′ below few a r u (omega arith) h d)
-
-    same-here : (a : Access) → Near n a → (u : ℕ) → u < n → (u ≡ t → ⊥)
-        → hasCopyOf (copiesAfter n t a c) u (located a) ≡ hasCopyOf (copiesAfter n t a c′) u (located a)
-    same-here (read m f) q u h d = read-kept n t c m f u (omega arith) d ∙ same u h (located (read m f)) q ∙ sym (read-kept n t c′ m f u (omega arith) d)
-    same-here (write m f) q u h d = both-ended (write m f) tt q u h d
-    same-here swap q u h d = both-ended swap tt q u h d
-
     same-after : (a : Access) → Near n a → SameCopies n (copiesAfter n t a c) (copiesAfter n t a c′)
     same-after a q u h l k =
-        elim (ℕ-discrete (place l) (place (located a))) [
-          | yes e ↦ rw (place-injective l (located a) e) (elim (ℕ-discrete u t) [
-            | yes p ↦ rw p (own-held n t c below few a (omega arith) ∙ sym (own-held n t c′ below few a (omega arith)))
-            | no d ↦ same-here a q u h d
-          ])
-          | no d ↦
-              let apart : l ≡ located a → ⊥ = λ p. d (ap place p) in
-              elsewhere-kept n t c a u l apart ∙ same u h l k ∙ sym (elsewhere-kept n t c′ a u l apart)
-        ]
+        copy-after n t c below few a (omega arith) u h l
+        ∙ ap (λ (b : Bool). cond (eqb (place (located a)) (place l) && (eqb t u || ends a)) (eqb t u) b) (same u h l k)
+        ∙ sym (copy-after n t c′ below few a (omega arith) u h l)
 
   -- and after a list of them, of which as many are remote
   pub same-referred : (accesses : List Access) → Each (Near n) accesses → (c c′ : List ℕ) → length c ≡ mostLocations → length c′ ≡ mostLocations → SameCopies n c c′
