@@ -11,7 +11,7 @@ static uint32_t number(const uint8_t *at)
 
 int main(void)
 {
-    /* Queue of capacity 4, h = 8; thread 0 puts 7, thread 1 takes: document 01's run with costs 14 and 10. */
+    /* Queue of capacity 4, h = 8; thread 0 puts 7, thread 1 takes: document 01's run, which costs 5 and 4 by request No. 5 of document 02. */
     const uint8_t counts[] = {1, 1};
     const uint8_t requests[] = {0, 7, 0, 0, 0, 1, 0, 0, 0, 0};
     uint8_t schedule[8 + 9 + 20 + 3] = {0};

@@ -5,8 +5,8 @@
 //! called from several threads at once. [`run`] needs 40 KiB of stack, [`list`] 80 KiB, [`page`] 64 KiB.
 //!
 //! What the library promises of its answers is proved, for every file and every schedule; this package, the linker and the
-//! compiler are not part of that proof. The file's layout and the record of a call stand in `include/ccs.h`; the repository's README
-//! shows a listing and a page.
+//! compiler are not part of that proof. The file's layout, the record of a call and what a remote reference is stand in `include/ccs.h`;
+//! the repository's README shows a listing and a page.
 mod record;
 mod refusal;
 
@@ -169,7 +169,7 @@ pub fn judge(file: &[u8]) -> Result<Judged, Refusal> {
 /// file.resize(file.len() + 21, 0);
 /// let mut out = [0xEE; 32];
 /// let counts = ccs::run(&file, &mut out).unwrap();
-/// assert_eq!((counts.records, counts.turns, counts.remote), (1, 1, 9));
+/// assert_eq!((counts.records, counts.turns, counts.remote), (1, 1, 3));
 /// let record = ccs::records(&out, &counts).next().unwrap();
 /// assert_eq!(record.serving.unwrap().answer, ccs::Answer::Value(0));
 /// assert_eq!((record.began, record.returned), (0, Some(20)));
@@ -271,7 +271,7 @@ pub fn list(file: &[u8], out: &mut [u8]) -> Result<usize, Refusal> {
 /// let rows: Vec<&[u8]> = out[..length].chunks(ccs::ROW_LENGTH).collect();
 /// assert_eq!(rows.len(), 2);
 /// assert_eq!(rows[0], b"no  th rq ans   value      by turn  remote     state   \n");
-/// assert_eq!(rows[1], b"  0  0  0 none  -          -  -              4 open    \n");
+/// assert_eq!(rows[1], b"  0  0  0 none  -          -  -              2 open    \n");
 ///
 /// // no request, no entry: the head row alone
 /// let file = [0x43, 0x43, 0x53, 1, 0, 2, 1, 1, 0, 0, 0, 0];

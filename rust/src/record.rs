@@ -34,7 +34,8 @@ pub struct Record {
     pub request: u8,
     /// How it was served; none yet for a call that waits.
     pub serving: Option<Serving>,
-    /// The call's remote references so far.
+    /// The call's remote references so far. Of a returned call, at most 6 if another thread served it, and at most k + 5 if it had the
+    /// turn itself and served k.
     pub remote: u32,
     /// The number of the entry that ran the call's line 1: its place in the whole schedule, from 0.
     pub began: u32,
@@ -56,10 +57,10 @@ impl Record {
     ///
     /// ```
     /// let waiting = [
-    ///     0, 1, 255, 255, 0, 0, 0, 0, 4, 0, 0, 0, 0, 255, 255, 0, 21, 0, 0, 0, 255, 255, 255, 255,
+    ///     0, 1, 255, 255, 0, 0, 0, 0, 2, 0, 0, 0, 0, 255, 255, 0, 21, 0, 0, 0, 255, 255, 255, 255,
     /// ];
     /// let record = ccs::Record::read(&waiting).unwrap();
-    /// assert_eq!((record.thread, record.request, record.remote), (0, 1, 4));
+    /// assert_eq!((record.thread, record.request, record.remote), (0, 1, 2));
     /// assert_eq!((record.serving, record.began, record.returned), (None, 21, None));
     /// assert_eq!(ccs::Record::read(&[255; ccs::RECORD_LENGTH]), None);
     /// ```
@@ -136,11 +137,11 @@ mod tests {
 
     /// A call of thread 1, served by thread 0 in turn 2: begun with entry 258, returned with entry 515.
     const RETURNED: [u8; RECORD_LENGTH] = [
-        1, 3, 1, 0, 7, 0, 0, 0, 10, 0, 0, 0, 1, 2, 0, 0, 2, 1, 0, 0, 3, 2, 0, 0,
+        1, 3, 1, 0, 7, 0, 0, 0, 5, 0, 0, 0, 1, 2, 0, 0, 2, 1, 0, 0, 3, 2, 0, 0,
     ];
     /// The same before it is served.
     const WAITING: [u8; RECORD_LENGTH] = [
-        1, 3, 255, 255, 0, 0, 0, 0, 4, 0, 0, 0, 0, 255, 255, 0, 2, 1, 0, 0, 255, 255, 255, 255,
+        1, 3, 255, 255, 0, 0, 0, 0, 2, 0, 0, 0, 0, 255, 255, 0, 2, 1, 0, 0, 255, 255, 255, 255,
     ];
 
     /// The record with other bytes from a place on.
@@ -159,7 +160,7 @@ mod tests {
             thread: 1,
             request: 3,
             serving: None,
-            remote: 4,
+            remote: 2,
             began: 258,
             returned: None,
         };
@@ -170,7 +171,7 @@ mod tests {
                 server: 0,
                 turn: 2,
             }),
-            remote: 10,
+            remote: 5,
             returned: Some(515),
             ..waiting
         };

@@ -313,8 +313,8 @@ fn pages_as_stated() {
         lent.rows(&counter.bytes()),
         [
             HEAD,
-            "  0  0  0 value          0  0     0          9 returned\n",
-            "  1  0  1 value          5  0     1          2 returned\n",
+            "  0  0  0 value          0  0     0          3 returned\n",
+            "  1  0  1 value          5  0     1          0 returned\n",
         ]
     );
     counter.schedule.truncate(5);
@@ -322,7 +322,7 @@ fn pages_as_stated() {
         lent.rows(&counter.bytes()),
         [
             HEAD,
-            "  0  0  0 none  -          -  -              4 open    \n",
+            "  0  0  0 none  -          -  -              2 open    \n",
         ]
     );
     // before the Swap: two requests stand in the file, and the head row alone is printed
@@ -348,8 +348,8 @@ fn pages_as_stated() {
         lent.rows(&queue.bytes()),
         [
             HEAD,
-            "  0  0  0 done           1  0     0          9 returned\n",
-            "  1  0  1 full  -           0     1          2 returned\n",
+            "  0  0  0 done           1  0     0          3 returned\n",
+            "  1  0  1 full  -           0     1          0 returned\n",
             "  2  0  2 value          3  0     2          0 returned\n",
             "  3  0  3 empty -           0     3          0 returned\n",
         ]

@@ -118,11 +118,14 @@ static void accepted(void)
     same("first return", number(out + 20), 20);
     same("second begin", number(out + CCS_RECORD_LENGTH + 16), 21);
     same("second return", number(out + CCS_RECORD_LENGTH + 20), 41);
+    /* each fetches its own node, Tail and curNode */
+    same("first cost", number(out + 8), 3);
+    same("second cost", number(out + CCS_RECORD_LENGTH + 8), 3);
     same("records", counts[CCS_RUN_RECORDS], 2);
     same("turns", counts[CCS_RUN_TURNS], 2);
     same("blanks", counts[CCS_RUN_BLANKS], 0);
     same("spins", counts[CCS_RUN_SPINS], 0);
-    same("remote", counts[CCS_RUN_REMOTE], number(out + 8) + number(out + CCS_RECORD_LENGTH + 8));
+    same("remote", counts[CCS_RUN_REMOTE], 6);
     /* thread 0 alone runs its 21 entries and then has blanks; after 8 entries of thread 1, thread 0 runs 8 lines and spins for the other 26 entries */
     uint8_t other[sizeof file];
     memcpy(other, file, sizeof file);

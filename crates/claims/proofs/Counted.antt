@@ -17,10 +17,11 @@ use Rattle.state.specs.declared.Counts.{Counts}
 use Rattle.state.specs.declared.State.{State}
 use Rattle.state.specs.Range.{countsInRange}
 use Rattle.step.specs.Entry.{oneIf, moreOf, plus, row, target, event, accesses, references, countsAfter, entered}
+use Rattle.step.proofs.Numbers.{at-most-one}
 use Rattle.history.specs.Entries.{Entry, remoteIn}
 use Rattle.history.specs.Copies.{remoteMarks}
 use Rattle.history.specs.Terms.{countsOf}
-use Rattle.history.proofs.Sums.{at-most-one, Few, counts-fit}
+use Rattle.history.proofs.Sums.{Few, counts-fit}
 use Rattle.claims.specs.Entries.{entryOf}
 
 -- the remote accesses of an entry are as many as the state counts

@@ -1,5 +1,5 @@
 -- The whole invariant of a file's run, layer on layer, and that every entry keeps it. Assumes fields in range.
-use Prim.Native.Nat.{ℕ, _+_, _-_, _*_, _≤_, _<_}
+use Prim.Native.Nat.{ℕ, _+_, _-_, _≤_, _<_}
 use native.Mathlib.Omega.{arith}
 use mathlib.Core.Path.{_≡_, refl, sym, ap, subst, _∙_}
 use mathlib.Core.Bool.{Bool, true, false, cond, and-false}
@@ -33,7 +33,7 @@ use Rattle.cc_synch.specs.Effect.{takesOut}
 use Rattle.state.specs.declared.State.{State}
 use Rattle.state.specs.Range.{reqInRange}
 use Rattle.state.proofs.RangeFacts.{state-fits}
-use Rattle.step.specs.Entry.{named, line, row, node, event, request, applied, accesses, references, entered}
+use Rattle.step.specs.Entry.{named, line, row, node, event, request, applied, references, entered}
 use Rattle.step.specs.Numbers.{number}
 use Rattle.step.proofs.Outcome.{node-fits}
 use Rattle.step.proofs.Numbers.{by-last}
@@ -61,9 +61,8 @@ use Rattle.history.proofs.Turns.{turns-kept, applies-combining}
 use Rattle.history.proofs.Calls.{still-open, calls-kept}
 use Rattle.history.proofs.Times.{times-kept}
 use Rattle.claims.specs.Entries.{entryOf}
-use Rattle.claims.specs.Claims.{askedOf, askedBy, earlyBlank, outsideTurn, afterReturn}
-use Rattle.claims.proofs.CopiesSaid.{CopiesSaid, copies-kept, remote-said}
-use Rattle.claims.proofs.Counted.{remote-ones}
+use Rattle.claims.specs.Claims.{askedOf, askedBy, earlyBlank, outsideTurn, afterReturn, mostByAnother, mostCombining}
+use Rattle.claims.proofs.CopiesSaid.{CopiesSaid, step-said, copies-kept, remote-said}
 use Rattle.claims.proofs.Meets.{numbers, last-line, count-kept, moves}
 use Rattle.claims.proofs.Run.{Going, request-going}
 use Rattle.claims.proofs.Seen.{phaseOf, seenOf, positionsOf}
@@ -79,8 +78,8 @@ jobsOf f past = map (askedBy f) (swapOrder past)
 
 -- what CC-Synch claims of a returned call that combined or not, its turn having served k
 abbrev pub Bounded : Bool → ℕ → ℕ → Type 0
-Bounded true k cost = cost ≤ 5 * k + 7
-Bounded false k cost = cost ≤ 10
+Bounded true k cost = cost ≤ mostCombining k
+Bounded false k cost = cost ≤ mostByAnother
 
 -- a state of a file's run and its entries, a ledger for it, the cost of each thread's open call and the answers given: all layers hold
 pub record Layers (f : Fields) (s : State) (past : List Entry) : Type 0 where
@@ -88,7 +87,7 @@ pub record Layers (f : Fields) (s : State) (past : List Entry) : Type 0 where
   pub cost : ℕ → ℕ
   pub answers : List Answer
   pub control : Control (s .n) (s .h) (viewOf s) ledger
-  pub remote : Remote (s .n) (viewOf s) (s .copies) cost
+  pub remote : Remote (s .n) (viewOf s) ledger (s .copies) cost
   pub object : Data (s .n) (asks f) (s .kind) (s .capacity) (viewOf s) ledger (jobsOf f past) answers (s .object)
   pub swaps : SwapOrder (s .n) (seenOf (viewOf s)) (positionsOf ledger) past
   pub turns : Turns (s .n) (s .h) (seenOf (viewOf s)) (positionsOf ledger) past
@@ -272,7 +271,7 @@ module _ (f : Fields) (fits : InRange f) (s : State) (past : List Entry) (t : Th
 
   -- what the entry costs, as the state counts it
   remote-same : remoteIn (e .remote) ≡ references s t .remote
-  remote-same = remote-ones (s .n) (t .0) (s .copies) (accesses s t)
+  remote-same = step-said s t (going .sound) below .counted
 
   abbrev costs : ℕ → ℕ
   costs = upd (now .cost) (t .0) (cond (eqb (number l) 1) 0 (now .cost (t .0)) + references s t .remote)
@@ -285,13 +284,13 @@ module _ (f : Fields) (fits : InRange f) (s : State) (past : List Entry) (t : Th
       (λ q. rw (ne-eqb (number l) 1 q, is-not e CallBegins (λ z. q (by .begins z)), remote-same))
 
   -- a call returns with line 11 from waiting, and with line 21 from its turn
-  by-another : Is Returns e → phaseOf (named s t .line) ≡ waiting → now .cost (t .0) + remoteIn (e .remote) ≤ 10
+  by-another : Is Returns e → phaseOf (named s t .line) ≡ waiting → now .cost (t .0) + remoteIn (e .remote) ≤ mostByAnother
   by-another q p =
       by-last (number l) (last-line (now .control) does (tells-of s t) q)
       (λ z. rw remote-same (returns-11 few copied (now .control) (now .remote) does z))
       (λ z. absurd (omega (arith, rw (does .stands, z) at p)))
 
-  by-itself : Is Returns e → phaseOf (named s t .line) ≡ leaving → now .cost (t .0) + remoteIn (e .remote) ≤ 5 * named s t .served + 7
+  by-itself : Is Returns e → phaseOf (named s t .line) ≡ leaving → now .cost (t .0) + remoteIn (e .remote) ≤ mostCombining (named s t .served)
   by-itself q p =
       by-last (number l) (last-line (now .control) does (tells-of s t) q)
       (λ z. absurd (omega (arith, rw (does .stands, z) at p)))
@@ -316,8 +315,8 @@ module _ (f : Fields) (fits : InRange f) (s : State) (past : List Entry) (t : Th
     turns = turns-kept past moved (now .turns);
     calls = calls-kept Bounded moved (now .swaps) (now .turns) (now .calls) spends (λ u z. upd-other _ (t .0) _ u z) returns-answer by-another by-itself;
     times = times-kept moved (now .swaps) open-yet (now .times);
-    copies = copies-kept s t past (going .sound) below (now .copies);
-    said = (remote-said s t past (going .sound) below (now .copies), now .said);
+    copies = copies-kept s t (going .sound) below past (now .copies);
+    said = (remote-said s t (going .sound) below past (now .copies), now .said);
     rows = λ u b. count-kept (now .control) does (tells-of s t) u ∙ now .rows u b;
     answered = answered-next;
     asked = asked-next;

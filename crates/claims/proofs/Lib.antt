@@ -13,6 +13,7 @@ pub mod Parts
 pub mod Room
 pub mod Run
 pub mod Seen
+pub mod Sharp
 pub mod Start
 pub mod Steps
 pub mod Theorem

@@ -1,7 +1,8 @@
--- Demand 3 of document 01, the precedence of request No. 1 and the counts of No. 3: one claim about the whole list of entries of a file's run. The entries
--- are in Entries.antt, the terms in the crate `history`. Up to `Holds` each definition reads the file and the entries alone; `Demand3` ties them to the machine.
+-- Demand 3 of document 01, the precedence of request No. 1, the counts of No. 3 and the bounds of No. 5: one claim about the whole list of entries of a file's
+-- run. The entries are in Entries.antt, the terms in the crate `history`. Up to `Holds` each definition reads the file and the entries alone; `Demand3` ties
+-- them to the machine.
 -- The parts: 1 what is served, 2 the records, 3 the combiner, 4 turns, 5 remote references, 6 no refusal, 7 when calls began and returned.
-use Prim.Native.Nat.{ℕ, suc, _+_, _-_, _*_, _≤_, _<_, _^_}
+use Prim.Native.Nat.{ℕ, suc, _+_, _-_, _≤_, _<_, _^_}
 use mathlib.Core.Path.{_≡_}
 use mathlib.Core.Bool.{Bool, true, false, not, _&&_}
 use mathlib.Core.List.{List, [], _∷_, map, reverse}
@@ -58,15 +59,22 @@ RecordSized bytes = (length bytes ≡ recordLength) × Each Byte bytes
 abbrev pub HasAnswer : List ℕ → ℕ → ℕ → Type 0
 HasAnswer bytes mark value = (getD bytes 2 0 ≡ mark) × (take 4 (drop 4 bytes) ≡ lowFirst 4 value)
 
--- a returned call: it was served, by its own thread exactly if it combined, and then in its own turn; it returns the answer that it was served;
--- served by another thread it has at most 10 remote references, and having combined and served k at most 5k + 7
+-- the most remote references of a returned call: of one that another thread served, and of one that combined and served k
+abbrev pub mostByAnother : ℕ
+mostByAnother = 6
+
+abbrev pub mostCombining : ℕ → ℕ
+mostCombining k = k + 5
+
+-- a returned call: it was served, by its own thread exactly if it combined, and then in its own turn; it returns the answer that it was served; and its remote
+-- references are within these bounds
 pub record ReturnedCall (history : List Entry) (c : Call) (w : Shown) : Type 0 where
   pub served : retMark (w .ret) < 255
   pub by-itself : eqb (w .server .0) (c .thread .0) ≡ combined c history
   pub own-turn : combined c history ≡ true → w .turn ≡ turnOfCall c history
   pub answer : returns c history ≡ w .ret
-  pub by-another : eqb (w .server .0) (c .thread .0) ≡ false → costOf c history ≤ 10
-  pub combining : combined c history ≡ true → costOf c history ≤ 5 * servedIn (turnOfCall c history) history + 7
+  pub by-another : eqb (w .server .0) (c .thread .0) ≡ false → costOf c history ≤ mostByAnother
+  pub combining : combined c history ≡ true → costOf c history ≤ mostCombining (servedIn (turnOfCall c history) history)
 
 -- a call in time: it begins, does its Swap later, and returns, if it has, later still
 pub record Timed (history : List Entry) (c : Call) : Type 0 where
@@ -116,7 +124,7 @@ pub record Holds (f : Fields) (history : List Entry) (s a : ℕ) : Type 0 where
   pub at-most-h : (turn : ℕ) → servedIn turn history ≤ f .head .h
   pub turns-fit : howMany TurnBegins history < noTurn
   pub turn-fits : (c : Call) → shownOf c (servings history) .turn ≤ noTurn
-  -- 5: the bounds; bytes 8 to 11 are a call's remote references, which have 32 bits; and each access is remote as document 01 says
+  -- 5: the bounds; bytes 8 to 11 are a call's remote references, which have 32 bits; and each access is remote as document 01 says, with the locations of request No. 5
   pub settled : (c : Call) → returned c history ≡ true → ReturnedCall history c (shownOf c (servings history))
   pub cost : (i : ℕ) → i < s → take 4 (drop 8 (getD (recordsOf history) i [])) ≡ lowFirst 4 (costOf (swapAt history i) history)
   pub cost-fits : (c : Call) → costOf c history < 2 ^ 32

@@ -2,3 +2,4 @@ pub mod Claims
 pub mod Entries
 pub mod Marked
 pub mod Result
+pub mod Sharp

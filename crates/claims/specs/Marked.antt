@@ -44,10 +44,10 @@ listed thread request mark value server turn remote over began returned = record
 
 -- the first record of the 64-byte file, the record of its run cut to 5, and one with its own number in each byte, which is no run's
 abbrev pub served : List ℕ
-served = listed 0 0 value 0 0 0 9 hasReturned 0 20
+served = listed 0 0 value 0 0 0 3 hasReturned 0 20
 
 abbrev pub waiting : List ℕ
-waiting = listed 0 0 none 0 255 65535 4 stillOpen 0 4_294_967_295
+waiting = listed 0 0 none 0 255 65535 2 stillOpen 0 4_294_967_295
 
 abbrev pub ownBytes : List ℕ
 ownBytes = listed 10 11 full 134_678_021 13 3_854 404_166_165 hasReturned 572_596_255 741_026_345
@@ -55,8 +55,8 @@ ownBytes = listed 10 11 full 134_678_021 13 3_854 404_166_165 hasReturned 572_59
 -- these byte by byte
 unfoldable pub spelled : List (List ℕ)
 spelled =
-    (0 ∷ 0 ∷ 1 ∷ 0 ∷ 0 ∷ 0 ∷ 0 ∷ 0 ∷ 9 ∷ 0 ∷ 0 ∷ 0 ∷ 1 ∷ 0 ∷ 0 ∷ 0 ∷ 0 ∷ 0 ∷ 0 ∷ 0 ∷ 20 ∷ 0 ∷ 0 ∷ 0 ∷ [])
-    ∷ (0 ∷ 0 ∷ 255 ∷ 255 ∷ 0 ∷ 0 ∷ 0 ∷ 0 ∷ 4 ∷ 0 ∷ 0 ∷ 0 ∷ 0 ∷ 255 ∷ 255 ∷ 0 ∷ 0 ∷ 0 ∷ 0 ∷ 0 ∷ 255 ∷ 255 ∷ 255 ∷ 255 ∷ [])
+    (0 ∷ 0 ∷ 1 ∷ 0 ∷ 0 ∷ 0 ∷ 0 ∷ 0 ∷ 3 ∷ 0 ∷ 0 ∷ 0 ∷ 1 ∷ 0 ∷ 0 ∷ 0 ∷ 0 ∷ 0 ∷ 0 ∷ 0 ∷ 20 ∷ 0 ∷ 0 ∷ 0 ∷ [])
+    ∷ (0 ∷ 0 ∷ 255 ∷ 255 ∷ 0 ∷ 0 ∷ 0 ∷ 0 ∷ 2 ∷ 0 ∷ 0 ∷ 0 ∷ 0 ∷ 255 ∷ 255 ∷ 0 ∷ 0 ∷ 0 ∷ 0 ∷ 0 ∷ 255 ∷ 255 ∷ 255 ∷ 255 ∷ [])
     ∷ (10 ∷ 11 ∷ 3 ∷ 13 ∷ 5 ∷ 6 ∷ 7 ∷ 8 ∷ 21 ∷ 22 ∷ 23 ∷ 24 ∷ 1 ∷ 14 ∷ 15 ∷ 0 ∷ 31 ∷ 32 ∷ 33 ∷ 34 ∷ 41 ∷ 42 ∷ 43 ∷ 44 ∷ [])
     ∷ []
 
@@ -92,8 +92,8 @@ fillsTwo object = alone object 2 (Put 9 ∷ Put 8 ∷ Put 7 ∷ Take ∷ Put 6 �
 -- its records, with the values of the three takes
 abbrev pub fillsTwoRecords : ℕ → ℕ → ℕ → List (List ℕ)
 fillsTwoRecords first second third =
-    listed 0 0 done 1 0 0 9 hasReturned 0 20
-    ∷ listed 0 1 done 2 0 1 2 hasReturned 21 41
+    listed 0 0 done 1 0 0 3 hasReturned 0 20
+    ∷ listed 0 1 done 2 0 1 0 hasReturned 21 41
     ∷ listed 0 2 full 0 0 2 0 hasReturned 42 62
     ∷ listed 0 3 value first 0 3 0 hasReturned 63 83
     ∷ listed 0 4 done 2 0 4 0 hasReturned 84 104
@@ -114,31 +114,31 @@ fiveAndSeven schedule = fileOf Counter 2 1 0 ((Add 5 ∷ []) ∷ (Add 7 ∷ []) 
 -- in the order of document 01; the values of the third add and of the two puts and the stack's capacity are free there
 unfoldable pub markedRuns : List Marked
 markedRuns =
-    gives sixtyFour (counted 2 2 0 0 11) (served ∷ listed 0 1 value 5 0 1 2 hasReturned 21 41 ∷ [])
+    gives sixtyFour (counted 2 2 0 0 3) (served ∷ listed 0 1 value 5 0 1 0 hasReturned 21 41 ∷ [])
     -- a third add
-    ∷ gives (alone Counter 0 (Add 5 ∷ Add 7 ∷ Add 9 ∷ []) 63) (counted 3 3 0 0 11)
-    (served ∷ listed 0 1 value 5 0 1 2 hasReturned 21 41 ∷ listed 0 2 value 12 0 2 0 hasReturned 42 62 ∷ [])
+    ∷ gives (alone Counter 0 (Add 5 ∷ Add 7 ∷ Add 9 ∷ []) 63) (counted 3 3 0 0 3)
+    (served ∷ listed 0 1 value 5 0 1 0 hasReturned 21 41 ∷ listed 0 2 value 12 0 2 0 hasReturned 42 62 ∷ [])
     -- 4, 5 and 43 entries
-    ∷ gives (twoAdds 4) (counted 0 0 0 0 3) []
-    ∷ gives (twoAdds 5) (counted 1 0 0 0 4) (waiting ∷ [])
-    ∷ gives (twoAdds 43) (counted 2 2 1 0 11) (served ∷ listed 0 1 value 5 0 1 2 hasReturned 21 41 ∷ [])
+    ∷ gives (twoAdds 4) (counted 0 0 0 0 1) []
+    ∷ gives (twoAdds 5) (counted 1 0 0 0 2) (waiting ∷ [])
+    ∷ gives (twoAdds 43) (counted 2 2 1 0 3) (served ∷ listed 0 1 value 5 0 1 0 hasReturned 21 41 ∷ [])
     -- two threads, h = 8 and h = 1
-    ∷ gives (putAndTake 8 20 3) (counted 2 1 0 1 24) (listed 0 0 done 1 0 0 14 hasReturned 0 36 ∷ listed 1 0 value 7 0 0 10 hasReturned 8 39 ∷ [])
-    ∷ gives (putAndTake 1 13 13) (counted 2 2 0 1 20) (listed 0 0 done 1 0 0 10 hasReturned 0 29 ∷ listed 1 0 value 7 1 1 10 hasReturned 8 42 ∷ [])
+    ∷ gives (putAndTake 8 20 3) (counted 2 1 0 1 9) (listed 0 0 done 1 0 0 5 hasReturned 0 36 ∷ listed 1 0 value 7 0 0 4 hasReturned 8 39 ∷ [])
+    ∷ gives (putAndTake 1 13 13) (counted 2 2 0 1 8) (listed 0 0 done 1 0 0 4 hasReturned 0 29 ∷ listed 1 0 value 7 1 1 4 hasReturned 8 42 ∷ [])
     -- full and empty
-    ∷ gives (alone Queue 1 (Put 1 ∷ Put 2 ∷ []) 42) (counted 2 2 0 0 11) (listed 0 0 done 1 0 0 9 hasReturned 0 20 ∷ listed 0 1 full 0 0 1 2 hasReturned 21 41 ∷ [])
-    ∷ gives (alone Stack 1 (Take ∷ []) 21) (counted 1 1 0 0 9) (listed 0 0 empty 0 0 0 9 hasReturned 0 20 ∷ [])
+    ∷ gives (alone Queue 1 (Put 1 ∷ Put 2 ∷ []) 42) (counted 2 2 0 0 3) (listed 0 0 done 1 0 0 3 hasReturned 0 20 ∷ listed 0 1 full 0 0 1 0 hasReturned 21 41 ∷ [])
+    ∷ gives (alone Stack 1 (Take ∷ []) 21) (counted 1 1 0 0 3) (listed 0 0 empty 0 0 0 3 hasReturned 0 20 ∷ [])
     -- the sum past 4,294,967,295
-    ∷ gives (alone Counter 0 (Add 4_294_967_295 ∷ Add 1 ∷ Add 0 ∷ []) 63) (counted 3 3 0 0 11)
-    (served ∷ listed 0 1 value 4_294_967_295 0 1 2 hasReturned 21 41 ∷ listed 0 2 value 0 0 2 0 hasReturned 42 62 ∷ [])
+    ∷ gives (alone Counter 0 (Add 4_294_967_295 ∷ Add 1 ∷ Add 0 ∷ []) 63) (counted 3 3 0 0 3)
+    (served ∷ listed 0 1 value 4_294_967_295 0 1 0 hasReturned 21 41 ∷ listed 0 2 value 0 0 2 0 hasReturned 42 62 ∷ [])
     -- request No. 1: a call that began first and swapped second, both returned and both open, and a blank before the first call
-    ∷ gives (fiveAndSeven (replicate 1 0 ++ replicate 21 1 ++ replicate 20 0)) (counted 2 2 0 0 18)
-    (listed 1 0 value 0 1 0 9 hasReturned 1 21 ∷ listed 0 0 value 7 0 1 9 hasReturned 0 41 ∷ [])
-    ∷ gives (fiveAndSeven (replicate 4 0 ++ replicate 5 1 ++ replicate 1 0)) (counted 2 0 0 0 8)
-    (listed 1 0 none 0 255 65535 4 stillOpen 4 4_294_967_295 ∷ waiting ∷ [])
-    ∷ gives (fileOf Counter 2 1 0 ([] ∷ (Add 5 ∷ []) ∷ []) (replicate 1 0 ++ replicate 21 1)) (counted 1 1 1 0 9)
-    (listed 1 0 value 0 1 0 9 hasReturned 1 21 ∷ [])
+    ∷ gives (fiveAndSeven (replicate 1 0 ++ replicate 21 1 ++ replicate 20 0)) (counted 2 2 0 0 6)
+    (listed 1 0 value 0 1 0 3 hasReturned 1 21 ∷ listed 0 0 value 7 0 1 3 hasReturned 0 41 ∷ [])
+    ∷ gives (fiveAndSeven (replicate 4 0 ++ replicate 5 1 ++ replicate 1 0)) (counted 2 0 0 0 4)
+    (listed 1 0 none 0 255 65535 2 stillOpen 4 4_294_967_295 ∷ waiting ∷ [])
+    ∷ gives (fileOf Counter 2 1 0 ([] ∷ (Add 5 ∷ []) ∷ []) (replicate 1 0 ++ replicate 21 1)) (counted 1 1 1 0 3)
+    (listed 1 0 value 0 1 0 3 hasReturned 1 21 ∷ [])
     -- request No. 3: the counts of done puts
-    ∷ gives (fillsTwo Stack) (counted 8 8 0 0 11) (fillsTwoRecords 8 6 9)
-    ∷ gives (fillsTwo Queue) (counted 8 8 0 0 11) (fillsTwoRecords 9 8 6)
+    ∷ gives (fillsTwo Stack) (counted 8 8 0 0 3) (fillsTwoRecords 8 6 9)
+    ∷ gives (fillsTwo Queue) (counted 8 8 0 0 3) (fillsTwoRecords 9 8 6)
     ∷ []

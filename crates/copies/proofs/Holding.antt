@@ -1,7 +1,8 @@
 -- Valid copies of all locations after one access. Assumes nothing.
 use Prim.Native.Nat.{ℕ, _<_, _≤_}
+use native.Mathlib.Nat.{add-zero}
 use native.Mathlib.Omega.{arith}
-use mathlib.Core.Path.{_≡_, refl, sym, ap, ap₂, _∙_}
+use mathlib.Core.Path.{_≡_, refl, sym, ap, _∙_}
 use mathlib.Core.Bool.{Bool, true, false, cond, _&&_, _||_, false≢true}
 use mathlib.Core.List.{List, [], _∷_}
 use lib.ListN.{getD, length}
@@ -9,41 +10,18 @@ use lib.Dec.{T, eqb}
 use lib.Seq.{getD-set-same, getD-set-other}
 use borrow.Author.Tests.{eqb-true, eqb-false}
 use Rattle.machine.specs.declared.Field.{Field}
-use Rattle.machine.specs.declared.Field.the-variants.{Req, Ret, Wait, Completed, Next}
-use Rattle.machine.specs.Fields.{fieldNumber}
 use Rattle.machine.specs.declared.NodeId.{NodeId}
-use Rattle.machine.specs.Accesses.{Access, read, write, swap, Location, tail, part, located}
+use Rattle.machine.specs.Accesses.{Access, read, write, swap, Location, tail, whole, located}
 use Rattle.copies.specs.Copies.{hasCopy}
-use Rattle.copies.specs.Remote.{place, hasCopyOf, ends, wordAfter, copiesAfter}
+use Rattle.copies.specs.Remote.{place, hasCopyOf, remoteOf, ends, wordAfter, copiesAfter, referred}
 use Rattle.copies.proofs.Valid.{read-holds, read-keeps, write-holds, write-ends}
-
--- a node has five fields
-pub field-number-below : (f : Field) → fieldNumber f < 5
-field-number-below Req = omega arith
-field-number-below Ret = omega arith
-field-number-below Wait = omega arith
-field-number-below Completed = omega arith
-field-number-below Next = omega arith
-
-abbrev fieldAt : ℕ → Field
-fieldAt k = getD (Req ∷ Ret ∷ Wait ∷ Completed ∷ Next ∷ []) k Req
-
-field-at : (f : Field) → fieldAt (fieldNumber f) ≡ f
-field-at Req = refl
-field-at Ret = refl
-field-at Wait = refl
-field-at Completed = refl
-field-at Next = refl
 
 -- two locations at one place are one
 pub place-injective : (l l′ : Location) → place l ≡ place l′ → l ≡ l′
 place-injective tail tail e = refl
-place-injective tail (part m g) e = absurd (omega arith)
-place-injective (part m f) tail e = absurd (omega arith)
-place-injective (part m f) (part m′ g) e =
-    let node : m .0 ≡ m′ .0 = omega (arith, field-number-below f, field-number-below g) in
-    let number : fieldNumber f ≡ fieldNumber g = omega (arith, field-number-below f, field-number-below g) in
-    ap₂ part (ap (λ (k : ℕ). record { 0 = k }) node) (sym (field-at f) ∙ ap fieldAt number ∙ field-at g)
+place-injective tail (whole m) e = absurd (omega arith)
+place-injective (whole m) tail e = absurd (omega arith)
+place-injective (whole m) (whole m′) e = ap (λ (k : ℕ). whole (record { 0 = k })) (omega arith)
 
 -- an access that ends the other threads' copies, and one whose location has a place among the copies
 abbrev pub Ends : Access → Type 0
@@ -73,6 +51,10 @@ module _ (n t : ℕ) (copies : List ℕ) where
     own-held (read node f) h = here (read node f) t h ∙ read-holds _ t (omega arith)
     own-held (write node f) h = here (write node f) t h ∙ write-holds n _ t k m
     own-held swap h = here swap t h ∙ write-holds n _ t k m
+
+    -- a second access of the location finds the copy that the first made
+    pub second-held : (a b : Access) → Inside copies a → located b ≡ located a → referred n t copies (a ∷ b ∷ []) .remote ≡ remoteOf copies t a
+    second-held a b h e = rw (e, own-held a h) (add-zero (remoteOf copies t a))
 
     -- a write or Swap ends the copy of each other thread of the n
     pub others-ended : (a : Access) → Ends a → (u : ℕ) → Inside copies a → u < n → (u ≡ t → ⊥) → hasCopyOf (copiesAfter n t a copies) u (located a) ≡ false

@@ -14,9 +14,10 @@ use Rattle.copies.specs.Copies.{hasCopy}
 use Rattle.copies.specs.Remote.{place, remoteOf, wordAfter, copiesAfter, referred, isNone}
 use Rattle.copies.proofs.Valid.{none-held}
 
-at-most-one : {r : ℕ} (b : Bool) → r ≡ cond b 0 1 → r ≤ 1
-at-most-one true e = omega arith
-at-most-one false e = omega arith
+-- an access is one remote reference at most
+pub price-most : (b : Bool) → cond b 0 1 ≤ 1
+price-most true = omega arith
+price-most false = omega arith
 
 -- an access past the array is remote
 pub remote-outside : (t : ℕ) (l : List ℕ) (at : ℕ) → length l ≤ at → _≡_ {A = ℕ} 1 (cond (hasCopy (getD l at 0) t) 0 1)
@@ -32,7 +33,7 @@ module _ (n t : ℕ) (l : List ℕ) (at : ℕ) where
       → r ≡ cond (hasCopy (getD l at 0) t) 0 1
       → l′ ≡ set l at (wordAfter n t a (getD l at 0))
       → Made n t l (a ∷ []) r l′
-  one-referred a e q s = (q ∙ rw e (sym (add-zero (remoteOf l t a))), (s ∙ rw e, at-most-one (hasCopy (getD l at 0) t) q))
+  one-referred a e q s = (q ∙ rw e (sym (add-zero (remoteOf l t a))), (s ∙ rw e, omega (arith, q, price-most (hasCopy (getD l at 0) t))))
 
 -- two lists of accesses in turn
 module _ (n t : ℕ) where

@@ -1,18 +1,17 @@
 -- Remote references, from a list of accesses alone: document 01, 'Remote references'.
-use Prim.Native.Nat.{ℕ, _+_, _*_}
+use Prim.Native.Nat.{ℕ, _+_}
 use mathlib.Core.Bool.{Bool, true, false, cond}
 use mathlib.Core.List.{List, [], _∷_}
 use lib.ListN.{getD, set}
 use Rattle.machine.specs.declared.SharedAccess.{SharedAccess}
 use Rattle.machine.specs.declared.SharedAccess.the-variants.{NoAccess, Read, Write, Swap}
-use Rattle.machine.specs.Fields.{fieldNumber}
-use Rattle.machine.specs.Accesses.{Access, read, write, swap, Location, tail, part, located}
+use Rattle.machine.specs.Accesses.{Access, read, write, swap, Location, tail, whole, located}
 use Rattle.copies.specs.Copies.{hasCopy, afterRead, afterWrite}
 
--- the place of a location among the copies: Tail, then the five fields of each node
+-- the place of a location among the copies: Tail, then each node
 abbrev pub place : Location → ℕ
 place tail = 0
-place (part node field) = 1 + 5 * node .0 + fieldNumber field
+place (whole node) = 1 + node .0
 
 -- whether a thread has a valid copy of a location, by the location's place
 abbrev pub hasCopyOf : List ℕ → ℕ → Location → Bool

@@ -3,10 +3,9 @@ ghost use mathlib.Core.Path.{_≡_};
 ghost use mathlib.Core.Bool.{cond};
 ghost use Prim.Native.Nat.{_≤_};
 ghost use lib.ListN.{getD, set};
-ghost use Rattle.machine.specs.Accesses.{part, accessTo, accessesOf};
+ghost use Rattle.machine.specs.Accesses.{whole, accessTo, accessesOf};
 ghost use Rattle.copies.specs.Copies.{hasCopy, afterRead, afterWrite};
 ghost use Rattle.copies.specs.Remote.{place, isNone, referred};
-use machine::Field;
 use machine::NodeId;
 use machine::Row;
 use machine::SharedAccess;
@@ -51,18 +50,11 @@ pub fn after_write(word: u16, thread: ThreadId, n: u8) -> u16
     word
 }
 
-// The place of a field of a node among the copies; Tail's is 0.
-pub fn place(node: NodeId, field: Field) -> usize
-    ensures { λ r. ⌜ r ≡ place (part node field) ⌝ }
+// The place of a node among the copies; Tail's is 0.
+pub fn place(node: NodeId) -> usize
+    ensures { λ r. ⌜ r ≡ place (whole node) ⌝ }
 {
-    let first = 5 * (node.0 as usize);
-    match field {
-        Field::Req => 1 + first,
-        Field::Ret => 2 + first,
-        Field::Wait => 3 + first,
-        Field::Completed => 4 + first,
-        Field::Next => 5 + first,
-    }
+    1 + (node.0 as usize)
 }
 
 // A location's number after a write or a read.
@@ -99,8 +91,8 @@ fn refer(copies: &mut [u16], access: SharedAccess, node: NodeId, thread: ThreadI
 {
     match access {
         SharedAccess::NoAccess => 0,
-        SharedAccess::Read(field) => refer_at(copies, place(node, field), false, thread, n),
-        SharedAccess::Write(field) => refer_at(copies, place(node, field), true, thread, n),
+        SharedAccess::Read(_) => refer_at(copies, place(node), false, thread, n),
+        SharedAccess::Write(_) => refer_at(copies, place(node), true, thread, n),
         SharedAccess::Swap => refer_at(copies, 0, true, thread, n),
     }
 }

@@ -14,6 +14,7 @@ use Rattle.machine.specs.declared.Event.the-variants.{Blank, Swaps, TurnBegins,
 use Rattle.state.specs.Range.{countsInRange}
 use Rattle.state.proofs.RangeFacts.{counts-iff}
 use Rattle.step.specs.Entry.{oneIf}
+use Rattle.step.proofs.Numbers.{at-most-one}
 use Rattle.history.specs.Entries.{Entry, sumOver, inOrder, is, isBy, howMany, remoteIn}
 use Rattle.history.specs.Terms.{Call, isOf, noTurn, turnOf, Serving, servingOf, servings, costOf, countsOf}
 use Rattle.history.proofs.Swaps.{length-more}
@@ -24,10 +25,6 @@ pub one-each : {A : Type 0} (event : Event) (gives : Entry → List Entry → A)
 one-each event gives [] = refl
 one-each event gives (e ∷ past) =
     omega (arith, length-more (is event e) (inOrder (λ e past. cond (is event e) (gives e past ∷ []) []) past) (gives e past), one-each event gives past)
-
-pub at-most-one : (test : Bool) → oneIf test ≤ 1
-at-most-one true = omega arith
-at-most-one false = omega arith
 
 -- an entry that makes at most two remote references
 abbrev pub Few : Entry → Type 0

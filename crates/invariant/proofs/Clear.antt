@@ -1,41 +1,36 @@
--- What a thread's line writes: Tail, fields of the node that it holds, or as combiner ret, completed or wait of the node at position r;
--- so which copies of another thread stay. Assumes Control, n at most 16, and full copies.
-use Prim.Native.Nat.{ℕ, _≤_, _<_}
+-- What a thread's line writes: Tail, the node that it holds, or as combiner the node at position r, which the ledger notes;
+-- so what another thread's nodes cost it after the line. Assumes Control, n at most 16, and full copies.
+use Prim.Native.Nat.{ℕ, suc, _+_, _≤_, _<_}
 use native.Mathlib.Omega.{arith}
 use mathlib.Core.Path.{_≡_, refl, sym, _∙_, ap, subst}
-use mathlib.Core.Bool.{Bool, true, false, not, _||_, false≢true}
-use mathlib.Core.List.{List, [], _∷_, _++_}
-use lib.Dec.{T, T-not}
+use mathlib.Core.Bool.{true, false, false≢true}
+use mathlib.Core.List.{List}
+use lib.Dec.{T, ltb, eqb}
 use lib.ListN.{length}
-use lib.Ieee.Bits.{is-true}
-use borrow.Author.Tests.{eqb-true, le-ltb, not-false}
+use borrow.Author.Tests.{lt-ltb, le-ltb, eq-eqb, ne-eqb}
 use Rattle.object.specs.declared.Request.{Request}
 use Rattle.object.specs.declared.Answer.{Answer}
+use Rattle.object.specs.Each.{Each}
+use Rattle.object.proofs.Choice.{by-equal, by-order}
+use Rattle.object.proofs.Each.{each-map}
 use Rattle.machine.specs.declared.NodeId.{NodeId}
-use Rattle.machine.specs.declared.Node.{Node}
 use Rattle.machine.specs.declared.Field.{Field}
 use Rattle.machine.specs.declared.Field.the-variants.{Req, Ret, Wait, Completed, Next}
-use Rattle.machine.specs.declared.SharedAccess.{SharedAccess}
-use Rattle.machine.specs.declared.SharedAccess.the-variants.{NoAccess, Read, Write, Swap}
-use Rattle.machine.specs.Accesses.{pointed, Access, read, write, Location, tail, part, located, accessTo, accessesOf}
-use Rattle.machine.proofs.Rows.{writtenFrom}
+use Rattle.machine.specs.Accesses.{pointed, Access, read, write, accessesOf}
 use Rattle.machine.specs.Sizes.{mostLocations}
 use Rattle.cc_lines.specs.Lines.{Line, L0, L1, L2, L3, L4, L5, L6, L7, L8, L9, L10, L11, L12, L13, L14, L15, L16, L17, L18, L19, L20, L21, rowOf}
-use Rattle.cc_synch.proofs.Written.{told}
+use Rattle.copies.specs.Remote.{place, ends}
+use Rattle.step.specs.Entry.{oneIf}
 use Rattle.step.specs.Numbers.{number, standsAt}
-use Rattle.object.specs.Each.{Each}
-use Rattle.object.proofs.Each.{each-left, each-right, each-map}
-use Rattle.copies.specs.Remote.{place}
-use Rattle.copies.proofs.Holding.{field-number-below, Ends}
-use Rattle.invariant.specs.Stages.{Stage, Out, Wait as Waiting, Combine, o2, o3, o4, w6, w7, w9, w10, w11, c13, c15, c16, c17, c18, c20, out, wait, combine, l19, l21, dummy, stageOf, queued}
-use Rattle.invariant.specs.Ledger.{Ledger}
-use Rattle.invariant.specs.View.{View, Does, goal}
-use Rattle.invariant.specs.Control.{Slot, holding, slot, slotOfThread, held, waitRow, StageFacts, Order, Control}
-use Rattle.invariant.specs.Remote.{among}
-use Rattle.object.proofs.Choice.{by-equal}
+use Rattle.invariant.specs.Stages.{Stage, Out, Wait as Waiting, Combine, o2, o3, o4, w6, w7, w9, w10, w11, c13, c15, c16, c17, c18, c20, out, wait, combine, l19, l21, dummy, stageOf, queued, isThread}
+use Rattle.invariant.specs.Ledger.{Ledger, noted}
+use Rattle.invariant.specs.View.{View, Does}
+use Rattle.invariant.specs.Control.{holding, slot, slotOfThread, held, waitRow, StageFacts, Control}
+use Rattle.invariant.specs.Remote.{written, limit, linkedTmp}
+use Rattle.invariant.proofs.Noted.{notes}
 use Rattle.invariant.proofs.Slots.{in-queue}
 use Rattle.invariant.proofs.Seats.{holds, now, stage-at, node-bound, owner, whose}
-use Rattle.invariant.proofs.Copies.{either, Misses, Placed}
+use Rattle.invariant.proofs.Copies.{Of, Fits, Misses}
 
 -- the node that thread t's line points to, and the line's accesses
 abbrev pub aimed : View → ℕ → Line → NodeId
@@ -43,6 +38,10 @@ aimed v t l = pointed (rowOf l .node) (v .thread t)
 
 abbrev pub made : View → ℕ → Line → List Access
 made v t l = accessesOf (rowOf l) (aimed v t l)
+
+-- the ledger after thread t's line
+abbrev pub notedBy : ℕ → View → ℕ → Ledger → Line → Ledger
+notedBy n v t g l = noted n t (v .thread t .own .0) g l
 
 -- an entry: thread t of n, at most 16, runs line l, with these copies before it
 pub record Entering (n h : ℕ) (v v′ : View) (g : Ledger) (t : ℕ) (l : Line) (request : Request) (answer : Answer) (copies : List ℕ) : Type 0 where
@@ -54,136 +53,133 @@ pub record Entering (n h : ℕ) (v v′ : View) (g : Ledger) (t : ℕ) (l : Line
 -- thread u is at stage s
 pub record Standing (n h : ℕ) (v : View) (g : Ledger) (u : ℕ) (s : Stage) : Type 0 where
   pub below : u < n
+  pub stage : slot n v u .stage ≡ s
   pub node : held (slot n v u) ≡ holding s (v .thread u)
   pub facts : StageFacts h g u s (slotOfThread (v .thread u)) (v .node (holding s (v .thread u)))
 
 pub standing : {n h : ℕ} {v : View} {g : Ledger} → Control n h v g → (u : ℕ) → u < n → Standing n h v g u (stageOf (v .thread u .line))
-standing {n} {h} {v} {g} c u k = record { below = k; node = holds c u _ k refl; facts = now c u _ k refl }
+standing {n} {h} {v} {g} c u k = record { below = k; stage = stage-at c u _ k refl; node = holds c u _ k refl; facts = now c u _ k refl }
 
--- the fields of a queued node that only its holder writes
-abbrev pub onlyHolders : List Field
-onlyHolders = Req ∷ Next ∷ []
+-- position i was below a count and still is when the count has grown; it had the turn and still has it
+passed-grows : (i a a′ : ℕ) → a ≤ a′ → oneIf (ltb i a) ≤ oneIf (ltb i a′)
+passed-grows i a a′ k = by-order i a (λ p. rw (lt-ltb i a p, lt-ltb i a′ (omega arith)) (omega arith)) (λ p. rw (le-ltb i a p) (omega arith))
 
--- the stages whose node no other thread serves
-abbrev pub settles : Stage → Bool
-settles (out o) = false
-settles (wait w) = waitRow w .free || waitRow w .turn
-settles (combine c) = true
-settles l19 = true
-settles l21 = true
-settles dummy = false
+turn-grows : (i b b′ : ℕ) → (i ≡ b → b′ ≡ b) → oneIf (eqb i b) ≤ oneIf (eqb i b′)
+turn-grows i b b′ e = by-equal i b (λ q. rw (e q) (omega arith)) (λ q. rw (ne-eqb i b q) (omega arith))
 
--- at the position to serve, such a stage has the turn itself
-settled : (h : ℕ) (g : Ledger) (u : ℕ) (s : Stage) (x : Slot) (y : Node) → Order g → T (settles s) → StageFacts h g u s x y → g .at u ≡ g .r → g .at u ≡ g .b
-settled h g u (out o) x y order q f e = absurd q
-settled h g u (wait w) x y order q f e =
-    either (waitRow w .free) (waitRow w .turn) q
-    (λ z. eqb-true _ _ (not-false _ (rw (le-ltb (g .at u) (g .r) (omega arith)) at (f .1 .free (rw z tt)))))
-    (f .1 .turn)
-settled h g u (combine c) x y order q f e = f .1 .0 .turn
-settled h g u l19 x y order q f e = f .1 .0 .turn
-settled h g u l21 x y order q f e = absurd (omega (arith, f .1 .past, order .turn))
-settled h g u dummy x y order q f e = absurd q
+-- position i is not below a count that is there, and is below it when the count has grown by one; i + 0 is how a stage's row says that it is there
+comes-past : (i a : ℕ) → a ≡ i + 0 → (oneIf (ltb i a) ≡ 0) × (oneIf (ltb i (suc a)) ≡ 1)
+comes-past i a e = (rw (le-ltb i a (omega arith)), rw (lt-ltb i (suc a) (omega arith)))
 
--- an access that writes no wait leaves it
-wait-left : (m : NodeId) (a : SharedAccess) (x y : Node) → Each (Misses (part m Wait)) (accessTo m a) → writtenFrom a y x .wait ≡ x .wait
-wait-left m NoAccess x y h = refl
-wait-left m (Read f) x y h = refl
-wait-left m (Write Req) x y h = refl
-wait-left m (Write Ret) x y h = refl
-wait-left m (Write Wait) x y h = absurd (h .0 tt refl)
-wait-left m (Write Completed) x y h = refl
-wait-left m (Write Next) x y h = refl
-wait-left m Swap x y h = refl
+-- the ledger notes that the line writes the node of position r: one of the counts passes it, or the turn comes to it
+abbrev Counted : ℕ → View → ℕ → Ledger → Line → Type 0
+Counted n v t g l = written g (g .r) < written (notedBy n v t g l) (g .r)
 
 module _ {n h : ℕ} {v v′ : View} {g : Ledger} {t : ℕ} {l : Line} {request : Request} {answer : Answer} {copies : List ℕ} (en : Entering n h v v′ g t l request answer copies) where
-  -- a location that the line writes: Tail; a field of the node that the thread holds, whose next isn't written yet if it is queued;
-  -- or in the turn a field of the node at position r, not req or next, and its wait to FALSE
-  pub data Hit : Location → Type 0 where
-    swapped : Hit tail
-    own : {m : NodeId} {f : Field} → m .0 ≡ held (slot n v t) → (T (queued (slot n v t .stage)) → g .linked (g .at t) ≡ false) → Hit (part m f)
-    served : {m : NodeId} {f : Field} → m .0 ≡ g .node (g .r) → g .who (g .b) ≡ t → T (not (among onlyHolders f))
-        → (T (among (Wait ∷ []) f) → v′ .node (m .0) .wait ≡ false) → Hit (part m f)
-
-  -- a location that the line does not write
-  abbrev pub Clear : Location → Type 0
-  Clear x = (y : Location) → Hit y → y ≡ x → ⊥
+  -- a node that the line writes: the one that the thread holds, whose next isn't written yet if it is queued; or in the turn the one at position r, which is noted
+  pub data Hit (m : ℕ) : Type 0 where
+    own : m ≡ held (slot n v t) → (T (queued (slot n v t .stage)) → g .linked (g .at t) ≡ false) → Hit m
+    served : m ≡ g .node (g .r) → g .who (g .b) ≡ t → Counted n v t g l → Hit m
 
   -- an access of the line
-  pub record Touch (m : NodeId) (a : Access) : Type 0 where
-    pub placed : Placed m a
-    pub ends : Ends a → Hit (located a)
+  pub record Touch (a : Access) : Type 0 where
+    pub fits : Fits a
+    pub hits : ends a ≡ true → (m : ℕ) → Of m a → Hit m
 
   swapped-in : g .r ≤ g .s
   swapped-in = omega (arith, en .control .order)
-
-  -- another thread u, in the queue
-  module _ {u : ℕ} {s : Stage} (stand : Standing n h v g u s) (apart : u ≡ t → ⊥) (q : T (queued s)) where
-    turn-apart : g .at u ≡ g .b → g .who (g .b) ≡ t → ⊥
-    turn-apart a w = apart (sym (in-queue h g u s _ _ q (stand .facts) .who) ∙ ap (g .who) a ∙ w)
-
-    -- of its curNode: what the combiner writes is left to look at
-    clear-cur : (z : Field)
-        → (g .at u ≡ g .r → g .who (g .b) ≡ t → T (not (among onlyHolders z)) → (T (among (Wait ∷ []) z) → v′ .node (v .thread u .cur .0) .wait ≡ false) → ⊥)
-        → Clear (part (v .thread u .cur) z)
-    clear-cur z far y swapped p = let z : _≡_ {A = ℕ} 0 1 = cc in omega arith
-    clear-cur z far y (own {m = m} i j) p =
-        let same : m ≡ v .thread u .cur = cc in
-        apart (en .control .apart u t (omega (arith, stand .below)) (omega (arith, en .does .below)) (rw (stand .node, is-true (queued s) q, ← same) i))
-    clear-cur z far y (served {m = m} {f = z′} i j k w) p =
-        let same : m ≡ v .thread u .cur = cc in
-        let field : z′ ≡ z = cc in
-        let mine : held (slot n v u) ≡ g .node (g .r) = rw (stand .node, is-true (queued s) q, ← same) i in
-        far (whose (en .control) u (g .r) (omega (arith, stand .below)) (omega arith) swapped-in mine) j (rw field at k) (rw (field, same) at w)
-
-    pub clear-fields : (z : Field) → T (settles s || among onlyHolders z) → Clear (part (v .thread u .cur) z)
-    clear-fields z calm =
-        clear-cur z (λ i w far lower.
-        either (settles s) (among onlyHolders z) calm
-        (λ y. turn-apart (settled h g u s _ _ (en .control .order) (rw y tt) (stand .facts) i) w)
-        (T-not (among onlyHolders z) far))
-
-    -- of its wait, while that lasts
-    pub clear-wait : v′ .node (v .thread u .cur .0) .wait ≡ true → Clear (part (v .thread u .cur) Wait)
-    clear-wait on = clear-cur Wait (λ i w far lower. false≢true (sym (lower tt) ∙ on))
-
-    -- of the linked node that it serves itself
-    pub clear-tmp : (z : Field) → g .at u ≡ g .b → v .thread u .tmp .0 ≡ g .node (g .r) → g .linked (g .r) ≡ true → Clear (part (v .thread u .tmp) z)
-    clear-tmp z turn tmp link y swapped p = let z : _≡_ {A = ℕ} 0 1 = cc in omega arith
-    clear-tmp z turn tmp link y (own {m = m} i j) p =
-        let same : m ≡ v .thread u .tmp = cc in
-        let mine : held (slot n v t) ≡ g .node (g .r) = sym i ∙ ap (λ (q : NodeId). q .0) same ∙ tmp in
-        let t≤n : t ≤ n = omega (arith, en .does .below) in
-        let in-queue = rw (owner (en .control) t (g .r) t≤n (omega arith) swapped-in mine) at (en .control .seat (g .r) (omega arith) swapped-in .queued) in
-        false≢true (sym (j in-queue) ∙ ap (g .linked) (whose (en .control) t (g .r) t≤n (omega arith) swapped-in mine) ∙ link)
-    clear-tmp z turn tmp link y (served i j k w) p = turn-apart turn j
 
   -- thread t's own stage
   pub mine : (s : Stage) → stageOf (standsAt (number l)) ≡ s → Standing n h v g t s
   mine s e = subst (λ (s : Stage). Standing n h v g t s) (ap stageOf (en .does .stands) ∙ e) (standing (en .control) t (en .does .below))
 
-  place-of : (m : NodeId) → m .0 ≤ n → (f : Field) → place (part m f) < mostLocations
-  place-of m i f = omega (arith, field-number-below f, en .small)
+  -- another thread u
+  module _ {u : ℕ} {s : Stage} (stand : Standing n h v g u s) (apart : u ≡ t → ⊥) where
+    turn-apart : T (queued s) → g .at u ≡ g .b → g .who (g .b) ≡ t → ⊥
+    turn-apart q a w = apart (sym (in-queue h g u s _ _ q (stand .facts) .who) ∙ ap (g .who) a ∙ w)
 
-  look : (m : NodeId) → m .0 ≤ n → (f : Field) → Touch m (read m f)
-  look m i f = record { placed = record { fits = place-of m i f; there = refl }; ends = absurd }
+    -- the line writes the node that it holds only as combiner, if that is at position r
+    hit-held : Hit (holding s (v .thread u)) → (T (queued s) → g .at u ≡ g .r → g .who (g .b) ≡ t → Counted n v t g l → ⊥) → ⊥
+    hit-held (own i j) far = apart (en .control .apart u t (omega (arith, stand .below)) (omega (arith, en .does .below)) (stand .node ∙ i))
+    hit-held (served i w more) far =
+        let u≤n : u ≤ n = omega (arith, stand .below) in
+        let is = stand .node ∙ i in
+        let seated = rw (owner (en .control) u (g .r) u≤n (omega arith) swapped-in is, stand .stage) at (en .control .seat (g .r) (omega arith) swapped-in .queued) in
+        far seated (whose (en .control) u (g .r) u≤n (omega arith) swapped-in is) w more
 
-  change : (m : NodeId) → m .0 ≤ n → (f : Field) → Hit (part m f) → Touch m (write m f)
-  change m i f hit = record { placed = record { fits = place-of m i f; there = refl }; ends = λ _. hit }
+    -- line 20 does not take the turn from it
+    turn-stays : T (queued s) → g .at u ≡ g .b → notedBy n v t g l .b ≡ g .b
+    turn-stays q e =
+        notes n t _ g l .b ∙ by-equal (number l) 20
+        (λ z. let m = mine (combine c20) (ap (λ (k : ℕ). stageOf (standsAt k)) z) .facts in absurd (turn-apart q e (ap (g .who) (sym (m .1 .0 .turn)) ∙ m .0 .who)))
+        (λ z. rw (ne-eqb (number l) 20 z))
+
+    written-grows : T (queued s) → written g (g .at u) ≤ written (notedBy n v t g l) (g .at u)
+    written-grows q =
+        let i = g .at u in
+        let o = notes n t (v .thread t .own .0) g l in
+        let g′ = notedBy n v t g l in
+        omega (
+          arith,
+          passed-grows i (g .a) (g′ .a) (omega (arith, o .a)),
+          passed-grows i (g .d) (g′ .d) (omega (arith, o .d)),
+          passed-grows i (g .r) (g′ .r) (omega (arith, o .r)),
+          turn-grows i (g .b) (g′ .b) (turn-stays q),
+        )
+
+  module _ {u : ℕ} (apart : u ≡ t → ⊥) where
+    -- its limit stays, or grows
+    pub limit-grows : (s : Stage) → Standing n h v g u s → (k : ℕ) → limit s g (g .at u) k ≤ limit s (notedBy n v t g l) (g .at u) k
+    limit-grows (out o) stand k = omega arith
+    limit-grows (wait w) stand k = omega (arith, written-grows stand apart tt)
+    limit-grows (combine c) stand k = omega arith
+    limit-grows l19 stand k = omega arith
+    limit-grows l21 stand k = omega arith
+    limit-grows dummy stand k = omega arith
+
+    -- where the line writes its node it grows
+    pub hit-counts : (s : Stage) → T (isThread s) → Standing n h v g u s → (k : ℕ) → Hit (holding s (v .thread u))
+        → limit s (notedBy n v t g l) (g .at u) k ≤ limit s g (g .at u) k → ⊥
+    hit-counts (out o) z stand k hit low = hit-held stand apart hit (λ q e w more. q)
+    hit-counts (wait w) z stand k hit low =
+        hit-held stand apart hit (λ q e w more. omega (arith, subst (λ (i : ℕ). written g i < written (notedBy n v t g l) i) (sym e) more))
+    hit-counts (combine c) z stand k hit low = hit-held stand apart hit (λ q e w more. turn-apart stand apart tt (stand .facts .1 .0 .turn) w)
+    hit-counts l19 z stand k hit low = hit-held stand apart hit (λ q e w more. turn-apart stand apart tt (stand .facts .1 .0 .turn) w)
+    hit-counts l21 z stand k hit low = hit-held stand apart hit (λ q e w more. omega (arith, stand .facts .1 .past, en .control .order))
+    hit-counts dummy z stand k hit low = absurd z
+
+    -- the linked node that it serves itself is not written
+    pub clear-tmp : (s : Stage) → T (linkedTmp s) → Standing n h v g u s → Hit (v .thread u .tmp .0) → ⊥
+    clear-tmp (combine c) q stand (own i j) =
+        let mine : held (slot n v t) ≡ g .node (g .r) = sym i ∙ stand .facts .1 .1 .serving in
+        let t≤n : t ≤ n = omega (arith, en .does .below) in
+        let seated = rw (owner (en .control) t (g .r) t≤n (omega arith) swapped-in mine) at (en .control .seat (g .r) (omega arith) swapped-in .queued) in
+        false≢true (sym (j seated) ∙ ap (g .linked) (whose (en .control) t (g .r) t≤n (omega arith) swapped-in mine) ∙ stand .facts .1 .1 .linked q)
+    clear-tmp (combine c) q stand (served i w more) = turn-apart stand apart tt (stand .facts .1 .0 .turn) w
+    clear-tmp (out o) q stand hit = q
+    clear-tmp (wait w) q stand hit = q
+    clear-tmp l19 q stand hit = q
+    clear-tmp l21 q stand hit = q
+    clear-tmp dummy q stand hit = q
+
+  look : (m : NodeId) → m .0 ≤ n → (f : Field) → Touch (read m f)
+  look m i f = record { fits = omega (arith, en .small); hits = λ e. absurd (false≢true e) }
+
+  change : (m : NodeId) → m .0 ≤ n → (f : Field) → Hit (m .0) → Touch (write m f)
+  change m i f hit = record { fits = omega (arith, en .small); hits = λ _ k e. let at = ap place e in subst Hit (omega arith) hit }
 
   within : {m : ℕ} → held (slot n v t) ≡ m → m ≤ n
   within i = rw (← i) (en .control .nodes t (omega (arith, en .does .below)))
 
-  look-cur : (s : Stage) → stageOf (standsAt (number l)) ≡ s → T (queued s) → (f : Field) → Touch (v .thread t .cur) (read (v .thread t .cur) f)
-  look-cur s e q f = look (v .thread t .cur) (within (rw (is-true (queued s) q) at (mine s e .node))) f
+  look-cur : (s : Stage) → stageOf (standsAt (number l)) ≡ s → holding s (v .thread t) ≡ v .thread t .cur .0 → (f : Field) → Touch (read (v .thread t .cur) f)
+  look-cur s e q f = look (v .thread t .cur) (within (mine s e .node ∙ q)) f
 
-  change-own : (o : Out) → stageOf (standsAt (number l)) ≡ out o → (f : Field) → Touch (v .thread t .own) (write (v .thread t .own) f)
+  change-own : (o : Out) → stageOf (standsAt (number l)) ≡ out o → (f : Field) → Touch (write (v .thread t .own) f)
   change-own o e f =
-      let m = mine (out o) e .node in
-      change (v .thread t .own) (within m) f
-      (own (sym m) (λ q. absurd (rw (stage-at (en .control) t _ (en .does .below) (en .does .stands), e) at q)))
+      let m = mine (out o) e in
+      change (v .thread t .own) (within (m .node)) f (own (sym (m .node)) (λ q. absurd (rw (m .stage) at q)))
 
-  change-cur : (w : Waiting) → stageOf (standsAt (number l)) ≡ wait w → waitRow w .linked ≡ false → (f : Field) → Touch (v .thread t .cur) (write (v .thread t .cur) f)
+  change-cur : (w : Waiting) → stageOf (standsAt (number l)) ≡ wait w → waitRow w .linked ≡ false → (f : Field) → Touch (write (v .thread t .cur) f)
   change-cur w e free f =
       let m = mine (wait w) e in
       change (v .thread t .cur) (within (m .node)) f (own (sym (m .node)) (λ q. m .facts .1 .linked ∙ free))
@@ -192,60 +188,45 @@ module _ {n h : ℕ} {v v′ : View} {g : Ledger} {t : ℕ} {l : Line} {request 
     tmp-within : v .thread t .tmp .0 ≤ n
     tmp-within = rw (mine (combine w) e .facts .1 .1 .serving) (node-bound (en .control) (g .r) (omega arith) swapped-in)
 
-    look-tmp : (f : Field) → Touch (v .thread t .tmp) (read (v .thread t .tmp) f)
+    look-tmp : (f : Field) → Touch (read (v .thread t .tmp) f)
     look-tmp = look (v .thread t .tmp) tmp-within
 
-    change-tmp : (f : Field) → T (not (among onlyHolders f)) → (T (among (Wait ∷ []) f) → v′ .node (v .thread t .tmp .0) .wait ≡ false)
-        → Touch (v .thread t .tmp) (write (v .thread t .tmp) f)
-    change-tmp f far lower =
+    change-tmp : (f : Field) → Counted n v t g l → Touch (write (v .thread t .tmp) f)
+    change-tmp f more =
         let m = mine (combine w) e .facts in
-        change (v .thread t .tmp) tmp-within f (served (m .1 .1 .serving) (ap (g .who) (sym (m .1 .0 .turn)) ∙ m .0 .who) far lower)
+        change (v .thread t .tmp) tmp-within f (served (m .1 .1 .serving) (ap (g .who) (sym (m .1 .0 .turn)) ∙ m .0 .who) more)
 
 module _ {n h : ℕ} {v v′ : View} {g : Ledger} {t : ℕ} {request : Request} {answer : Answer} {copies : List ℕ} where
   -- the accesses of thread t's line
-  touches : (l : Line) (en : Entering n h v v′ g t l request answer copies) → Each (Touch en (aimed v t l)) (made v t l)
+  touches : (l : Line) (en : Entering n h v v′ g t l request answer copies) → Each (Touch en) (made v t l)
   touches L0 en = tt
   touches L1 en = tt
   touches L2 en = (change-own en o2 refl Next, tt)
   touches L3 en = (change-own en o3 refl Wait, tt)
   touches L4 en = (change-own en o4 refl Completed, tt)
-  touches L5 en = (record { placed = record { fits = omega arith; there = tt }; ends = λ _. swapped }, tt)
+  touches L5 en = (record { fits = omega arith; hits = λ _ m e. let at = ap place e in absurd (omega arith) }, tt)
   touches L6 en = (change-cur en w6 refl refl Req, tt)
   touches L7 en = (change-cur en w7 refl refl Next, tt)
   touches L8 en = tt
-  touches L9 en = (look-cur en (wait w9) refl tt Wait, tt)
-  touches L10 en = (look-cur en (wait w10) refl tt Completed, tt)
-  touches L11 en = (look-cur en (wait w11) refl tt Ret, tt)
+  touches L9 en = (look-cur en (wait w9) refl refl Wait, tt)
+  touches L10 en = (look-cur en (wait w10) refl refl Completed, tt)
+  touches L11 en = (look-cur en (wait w11) refl refl Ret, tt)
   touches L12 en = tt
   touches L13 en = (look-tmp en c13 refl Next, tt)
   touches L14 en = tt
   touches L15 en = (look-tmp en c15 refl Next, tt)
-  touches L16 en = (look-tmp en c16 refl Req, (change-tmp en c16 refl Ret tt absurd, tt))
-  touches L17 en = (change-tmp en c17 refl Completed tt absurd, tt)
-  touches L18 en = (change-tmp en c18 refl Wait tt (λ _. ap (λ (x : Node). x .wait) (en .does .there)), tt)
+  touches L16 en = (look-tmp en c16 refl Req, (change-tmp en c16 refl Ret (omega (arith, comes-past (g .r) (g .a) (mine en (combine c16) refl .facts .1 .1 .applied))), tt))
+  touches L17 en = (change-tmp en c17 refl Completed (omega (arith, comes-past (g .r) (g .d) (mine en (combine c17) refl .facts .1 .1 .completed))), tt)
+  touches L18 en = (change-tmp en c18 refl Wait (omega (arith, comes-past (g .r) (g .r) (omega arith))), tt)
   touches L19 en = tt
-  touches L20 en = (change-tmp en c20 refl Wait tt (λ _. ap (λ (x : Node). x .wait) (en .does .there)), tt)
-  touches L21 en = (look-cur en l21 refl tt Ret, tt)
+  touches L20 en =
+      let f = mine en (combine c20) refl .facts .1 .1 in
+      (change-tmp en c20 refl Wait (rw (ne-eqb (g .r) (g .b) (λ e. omega (arith, f .past tt)), eq-eqb (g .r) (g .a) (omega (arith, f .applied))) (omega arith)), tt)
+  touches L21 en = (look-cur en l21 refl refl Ret, tt)
 
   module _ {l : Line} (en : Entering n h v v′ g t l request answer copies) where
-    pub placed : Each (Placed (aimed v t l)) (made v t l)
-    placed = each-map {P = Touch en (aimed v t l)} (λ a b. b .placed) (made v t l) (touches l en)
+    pub fits : Each Fits (made v t l)
+    fits = each-map {P = Touch en} (λ a b. b .fits) (made v t l) (touches l en)
 
-    pub missed : (x : Location) → Clear en x → Each (Misses x) (made v t l)
-    missed x clear = each-map {P = Touch en (aimed v t l)} (λ a b r. clear (located a) (b .ends r)) (made v t l) (touches l en)
-
-    -- the wait of a node stays if no access writes it
-    pub wait-kept : (m : NodeId) → Clear en (part m Wait) → v′ .node (m .0) .wait ≡ v .node (m .0) .wait
-    wait-kept m clear =
-        by-equal (m .0) (goal v t l)
-        (λ e.
-        let p = aimed v t l in
-        let same : m ≡ p = ap (λ (i : ℕ). record { 0 = i }) e in
-        let first = accessTo p (rowOf l .first) in
-        let second = accessTo p (rowOf l .second) in
-        let misses : Each (Misses (part p Wait)) (first ++ second) = rw same at (missed (part m Wait) clear) in
-        rw same
-        (ap (λ (x : Node). x .wait) (en .does .there ∙ told (v .thread t) (v .node (p .0)) (v .tail) h request answer l .node)
-        ∙ wait-left p (rowOf l .second) _ _ (each-right (Misses (part p Wait)) first second misses)
-        ∙ wait-left p (rowOf l .first) _ _ (each-left (Misses (part p Wait)) first second misses)))
-        (λ a. ap (λ (x : Node). x .wait) (en .does .elsewhere (m .0) a))
+    pub missed : (m : ℕ) → (Hit en m → ⊥) → Each (Misses m) (made v t l)
+    missed m clear = each-map {P = Touch en} (λ a b r e. clear (b .hits r m e)) (made v t l) (touches l en)

@@ -1,159 +1,79 @@
--- A list of accesses: which copies it leaves, which it gives, and how many of it are remote. Assumes a thread below n, n at most 16 and full copies where a law says so.
+-- A list of accesses: what a node costs a thread after it, and how many of it are remote. Assumes a thread below n, n at most 16 and full copies where a law says so.
 use Prim.Native.Nat.{ℕ, _+_, _≤_, _<_}
 use native.Mathlib.Omega.{arith}
-use mathlib.Core.Path.{_≡_, refl, sym, _∙_, ap, subst}
-use mathlib.Core.Bool.{Bool, true, false, cond, _||_, _&&_}
+use mathlib.Core.Path.{_≡_, refl, sym, _∙_, ap}
+use mathlib.Core.Bool.{Bool, true, false, cond, _&&_, _||_}
 use mathlib.Core.List.{List, [], _∷_}
-use lib.Dec.{T, eqb}
+use lib.Dec.{eqb}
 use lib.ListN.{length, length-set}
-use borrow.Author.Tests.{eqb-true}
-use Rattle.machine.specs.declared.NodeId.{NodeId}
-use Rattle.machine.specs.declared.Field.{Field}
-use Rattle.machine.specs.declared.Field.the-variants.{Req}
-use Rattle.machine.specs.Fields.{fieldNumber, null}
-use Rattle.machine.specs.Accesses.{Access, read, write, swap, Location, tail, part, located}
-use Rattle.machine.specs.Sizes.{mostLocations}
+use borrow.Author.Tests.{eqb-true, eqb-false}
 use Rattle.object.specs.Each.{Each}
-use Rattle.copies.specs.Remote.{place, hasCopyOf, remoteOf, copiesAfter, referred}
-use Rattle.copies.proofs.Holding.{place-injective, elsewhere-kept, read-kept, own-held, Ends}
-use Rattle.invariant.specs.Remote.{among, Copied}
-use Rattle.object.proofs.Choice.{by-equal}
+use Rattle.machine.specs.Accesses.{Access, Location, located}
+use Rattle.machine.specs.Sizes.{mostLocations}
+use Rattle.copies.specs.Remote.{place, hasCopyOf, remoteOf, ends, copiesAfter, referred}
+use Rattle.copies.proofs.Holding.{place-injective, own-held, copy-after}
+use Rattle.copies.proofs.References.{price-most}
+use Rattle.invariant.specs.Remote.{wholeOf, fetch}
 
-abbrev fieldOf : Location → Field
-fieldOf tail = Req
-fieldOf (part m f) = f
+-- an access of node m, one of a place among the copies, and one that does not end the copies of node m
+abbrev pub Of : ℕ → Access → Type 0
+Of m a = located a ≡ wholeOf m
 
-same-field : (f f′ : Field) → fieldNumber f ≡ fieldNumber f′ → f ≡ f′
-same-field f f′ e = ap fieldOf (place-injective (part null f) (part null f′) (omega arith))
+abbrev pub Fits : Access → Type 0
+Fits a = place (located a) < mostLocations
 
--- every field of one list is in another
-abbrev pub allAmong : List Field → List Field → Bool
-allAmong [] ys = true
-allAmong (x ∷ xs) ys = among ys x && allAmong xs ys
+abbrev pub Misses : ℕ → Access → Type 0
+Misses m a = ends a ≡ true → Of m a → ⊥
 
-module _ {P : Type 0} where
-  both : (a b : Bool) → T (a && b) → (T a → T b → P) → P
-  both true b x f = f tt x
-  both false b x f = absurd x
+-- what a test for a copy gives
+abbrev price : Bool → ℕ
+price b = cond b 0 1
 
-  pub either : (a b : Bool) → T (a || b) → (a ≡ true → P) → (T b → P) → P
-  either true b x f g = f refl
-  either false b x f g = g x
+pub fetch-most : (copies : List ℕ) (u m : ℕ) → fetch copies u m ≤ 1
+fetch-most copies u m = price-most (hasCopyOf copies u (wholeOf m))
 
--- in a list with one more field in front
-by-front : (P : Field → Type 0) (x : Field) (xs : List Field) (f : Field) → P x → (T (among xs f) → P f) → T (among (x ∷ xs) f) → P f
-by-front P x xs f first rest h =
-    either (eqb (fieldNumber x) (fieldNumber f)) (among xs f) h (λ e. subst P (same-field x f (eqb-true _ _ e)) first) rest
-
-pub among-all : (xs ys : List Field) → T (allAmong xs ys) → (f : Field) → T (among xs f) → T (among ys f)
-among-all [] ys t f h = absurd h
-among-all (x ∷ xs) ys t f h =
-    both (among ys x) (allAmong xs ys) t (λ a b. by-front (λ f. T (among ys f)) x xs f a (among-all xs ys b f) h)
-
--- an access that does not write this location
-abbrev pub Misses : Location → Access → Type 0
-Misses x a = Ends a → located a ≡ x → ⊥
-
--- a location is Tail or a field of this node
-abbrev pub At : NodeId → Location → Type 0
-At m tail = Unit
-At m (part m′ f) = m′ ≡ m
-
--- among the copies, and of this node
-pub record Placed (m : NodeId) (a : Access) : Type 0 where
-  pub fits : place (located a) < mostLocations
-  pub there : At m (located a)
-
--- the remote references of accesses to a node, and the fields of it that are copied after them, given fields that are copied
-abbrev pub price : List Field → Location → ℕ
-price fields tail = 1
-price fields (part m f) = cond (among fields f) 0 1
-
-abbrev pub gained : List Field → Location → List Field
-gained fields tail = fields
-gained fields (part m f) = f ∷ fields
-
-abbrev pub prices : List Field → List Access → ℕ
-prices fields [] = 0
-prices fields (a ∷ rest) = price fields (located a) + prices (gained fields (located a)) rest
-
-abbrev pub allGained : List Field → List Access → List Field
-allGained fields [] = fields
-allGained fields (a ∷ rest) = allGained (gained fields (located a)) rest
-
--- an access is remote at most, and not if its thread has a copy
-pub remote-most : (copies : List ℕ) (u : ℕ) (a : Access) (b : Bool) → (T b → hasCopyOf copies u (located a) ≡ true) → remoteOf copies u a ≤ cond b 0 1
-remote-most copies u a true h = rw (h tt) (omega arith)
-remote-most copies u a false h = by-test (hasCopyOf copies u (located a))
-  where
-    by-test : (b : Bool) → cond b 0 1 ≤ 1
-    by-test true = omega arith
-    by-test false = omega arith
+-- an access of node m costs what the node does
+at-node : (copies : List ℕ) (u m : ℕ) (a : Access) → Of m a → remoteOf copies u a ≡ fetch copies u m
+at-node copies u m a e = ap (λ (l : Location). price (hasCopyOf copies u l)) e
 
 module _ (n t : ℕ) (k : t < n) (small : n ≤ 16) where
-  -- after one access
-  kept-after : (copies : List ℕ) → length copies ≡ mostLocations → (a : Access) → place (located a) < mostLocations → (u : ℕ) (x : Location)
-      → ((u ≡ t → ⊥) → Misses x a) → hasCopyOf copies u x ≡ true → hasCopyOf (copiesAfter n t a copies) u x ≡ true
-  kept-after copies len a fits u x miss h =
-      by-equal (place x) (place (located a))
-      (λ e. here (place-injective x (located a) e))
-      (λ d. elsewhere-kept n t copies a u x (λ e. d (ap place e)) ∙ h)
+  -- after an access of node m the thread has it
+  pub fetched : (copies : List ℕ) → length copies ≡ mostLocations → (a : Access) → Fits a → (m : ℕ) → Of m a → fetch (copiesAfter n t a copies) t m ≡ 0
+  fetched copies len a fits m e =
+      sym (at-node (copiesAfter n t a copies) t m a e) ∙ ap price (own-held n t copies k small a (omega arith))
+
+  -- after one access a node costs no more than before, but for a thread whose copy it ends
+  kept-one : (copies : List ℕ) → length copies ≡ mostLocations → (a : Access) → Fits a → (u m : ℕ) → u < n → ((u ≡ t → ⊥) → Misses m a)
+      → fetch (copiesAfter n t a copies) u m ≤ fetch copies u m
+  kept-one copies len a fits u m exists miss =
+      rw (copy-after n t copies k small a (omega arith) u exists (wholeOf m)) (by-tests _ _ _ refl refl refl)
     where
-      inside : place (located a) < length copies
-      inside = omega arith
+      by-tests : (same mine ended : Bool) → eqb (place (located a)) (place (wholeOf m)) ≡ same → eqb t u ≡ mine → ends a ≡ ended
+          → price (cond (same && (mine || ended)) mine (hasCopyOf copies u (wholeOf m))) ≤ fetch copies u m
+      by-tests false mine ended e f g = omega arith
+      by-tests true true ended e f g = omega arith
+      by-tests true false false e f g = omega arith
+      by-tests true false true e f g = absurd (miss (λ q. eqb-false t u f (sym q)) g (place-injective (located a) (wholeOf m) (eqb-true _ _ e)))
 
-      apart : (a : Access) → place (located a) < length copies → (u ≡ t → ⊥) → ((u ≡ t → ⊥) → Ends a → ⊥) → hasCopyOf copies u (located a) ≡ true
-          → hasCopyOf (copiesAfter n t a copies) u (located a) ≡ true
-      apart (read m f) i d z h = read-kept n t copies m f u i d ∙ h
-      apart (write m f) i d z h = absurd (z d tt)
-      apart swap i d z h = absurd (z d tt)
+  -- nor after several
+  pub kept : (accesses : List Access) (copies : List ℕ) → length copies ≡ mostLocations → Each Fits accesses → (u m : ℕ) → u < n
+      → ((u ≡ t → ⊥) → Each (Misses m) accesses) → fetch (referred n t copies accesses .copies) u m ≤ fetch copies u m
+  kept [] copies len fits u m exists miss = omega arith
+  kept (a ∷ rest) copies len fits u m exists miss =
+      omega (
+        arith,
+        kept rest (copiesAfter n t a copies) (length-set copies _ _ ∙ len) (fits .1) u m exists (λ d. miss d .1),
+        kept-one copies len a (fits .0) u m exists (λ d. miss d .0),
+      )
 
-      here : x ≡ located a → hasCopyOf (copiesAfter n t a copies) u x ≡ true
-      here e =
-          rw e (by-equal u t
-          (λ same. rw same (own-held n t copies k small a inside))
-          (λ d. apart a inside d (λ d r. miss d r (sym e)) (rw e at h)))
-
-  -- after a list of accesses: a copy is lost only by another thread's write
-  pub kept : (accesses : List Access) (copies : List ℕ) → length copies ≡ mostLocations → (m : NodeId) → Each (Placed m) accesses → (u : ℕ) (x : Location)
-      → ((u ≡ t → ⊥) → Each (Misses x) accesses) → hasCopyOf copies u x ≡ true → hasCopyOf (referred n t copies accesses .copies) u x ≡ true
-  kept [] copies len m p u x miss h = h
-  kept (a ∷ rest) copies len m p u x miss h =
-      kept rest (copiesAfter n t a copies) (length-set copies _ _ ∙ len) m (p .1) u x (λ d. miss d .1)
-      (kept-after copies len a (p .0 .fits) u x (λ d. miss d .0) h)
-
-  -- the thread's own copies stay
-  pub own-kept : (accesses : List Access) (copies : List ℕ) → length copies ≡ mostLocations → (m′ : NodeId) → Each (Placed m′) accesses → (m : NodeId) (fields : List Field)
-      → Copied copies t m fields → Copied (referred n t copies accesses .copies) t m fields
-  own-kept accesses copies len m′ p m fields h f x = kept accesses copies len m′ p t (part m f) (λ d. absurd (d refl)) (h f x)
-
-  -- one access to a node of which some fields are copied
-  paid-one : (copies : List ℕ) → length copies ≡ mostLocations → (m : NodeId) (fields : List Field) (a : Access) → Placed m a → Copied copies t m fields
-      → (remoteOf copies t a ≤ price fields (located a)) × Copied (copiesAfter n t a copies) t m (gained fields (located a))
-  paid-one copies len m fields a p h = by-place (located a) refl (p .there)
-    where
-      stays : Copied (copiesAfter n t a copies) t m fields
-      stays f x = kept-after copies len a (p .fits) t (part m f) (λ d. absurd (d refl)) (h f x)
-
-      by-place : (l : Location) → located a ≡ l → At m l → (remoteOf copies t a ≤ price fields l) × Copied (copiesAfter n t a copies) t m (gained fields l)
-      by-place tail e z = (remote-most copies t a false absurd, stays)
-      by-place (part m′ f′) e z =
-          let at : located a ≡ part m f′ = e ∙ ap (λ (q : NodeId). part q f′) z in (
-            remote-most copies t a (among fields f′) (λ x. rw at (h f′ x)),
-            λ f.
-                by-front (λ f. hasCopyOf (copiesAfter n t a copies) t (part m f) ≡ true) f′ fields f
-                (subst (λ (l : Location). hasCopyOf (copiesAfter n t a copies) t l ≡ true) at (own-held n t copies k small a (omega (arith, p .fits))))
-                (stays f),
-          )
-
-  pub record Paid (accesses : List Access) (copies : List ℕ) (m : NodeId) (fields : List Field) : Type 0 where
-    pub most : referred n t copies accesses .remote ≤ prices fields accesses
-    pub copied : Copied (referred n t copies accesses .copies) t m (allGained fields accesses)
-
-  pub paid : (accesses : List Access) (copies : List ℕ) → length copies ≡ mostLocations → (m : NodeId) (fields : List Field) → Each (Placed m) accesses
-      → Copied copies t m fields → Paid accesses copies m fields
-  paid [] copies len m fields p h = record { most = omega arith; copied = h }
-  paid (a ∷ rest) copies len m fields p h =
-      let one = paid-one copies len m fields a (p .0) h in
-      let next = paid rest (copiesAfter n t a copies) (length-set copies _ _ ∙ len) m (gained fields (located a)) (p .1) (one .1) in
-      record { most = omega (arith, one .0, next .most); copied = next .copied }
+  -- accesses of one node cost what it does, once
+  pub paid : (accesses : List Access) (copies : List ℕ) → length copies ≡ mostLocations → Each Fits accesses → (m : ℕ) → Each (Of m) accesses
+      → referred n t copies accesses .remote + fetch (referred n t copies accesses .copies) t m ≤ fetch copies t m
+  paid [] copies len fits m of = omega arith
+  paid (a ∷ rest) copies len fits m of =
+      omega (
+        arith,
+        paid rest (copiesAfter n t a copies) (length-set copies _ _ ∙ len) (fits .1) m (of .1),
+        fetched copies len a (fits .0) m (of .0),
+        at-node copies t m a (of .0),
+      )

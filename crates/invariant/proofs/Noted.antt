@@ -17,6 +17,7 @@ use Rattle.invariant.proofs.Upd.{upd-same, upd-other}
 pub record Notes (n t own : ℕ) (g : Ledger) (k : ℕ) (g′ : Ledger) : Type 0 where
   pub s : g′ .s ≡ g .s + oneIf (eqb k 5)
   pub a : g′ .a ≡ g .a + oneIf (eqb k 16)
+  pub d : g′ .d ≡ g .d + oneIf (eqb k 17)
   pub r : g′ .r ≡ g .r + oneIf (eqb k 18)
   pub b : g′ .b ≡ cond (eqb k 20) (g .a) (g .b)
   pub node : (i : ℕ) → g′ .node i ≡ cond (eqb k 5) (swapped n t own g .node i) (g .node i)
@@ -28,6 +29,7 @@ notes n t own g l =
     record {
       s = each-line (λ (l : Line). after l .s ≡ g .s + oneIf (eqb (number l) 5)) (omega arith) l;
       a = each-line (λ (l : Line). after l .a ≡ g .a + oneIf (eqb (number l) 16)) (omega arith) l;
+      d = each-line (λ (l : Line). after l .d ≡ g .d + oneIf (eqb (number l) 17)) (omega arith) l;
       r = each-line (λ (l : Line). after l .r ≡ g .r + oneIf (eqb (number l) 18)) (omega arith) l;
       b = each-line (λ (l : Line). after l .b ≡ cond (eqb (number l) 20) (g .a) (g .b)) (omega arith) l;
       node = λ i. each-line (λ (l : Line). after l .node i ≡ cond (eqb (number l) 5) (swapped n t own g .node i) (g .node i)) (omega arith) l;

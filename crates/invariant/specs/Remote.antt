@@ -1,98 +1,77 @@
--- Remote references by stage: how many the open call of a thread has made at most, and of which fields the thread has valid copies.
-use Prim.Native.Nat.{ℕ, _+_, _*_, _≤_, _<_}
-use mathlib.Core.Path.{_≡_}
-use mathlib.Core.Bool.{Bool, true, false, cond, _||_}
-use mathlib.Core.List.{List, [], _∷_}
-use lib.Dec.{T, eqb}
-use Rattle.machine.specs.declared.NodeId.{NodeId}
+-- Remote references by stage: how many the open call of a thread has made at most, with those that it would make at the nodes at hand.
+use Prim.Native.Nat.{ℕ, _+_, _-_, _≤_, _<_}
+use mathlib.Core.Bool.{Bool, true, false, cond}
+use mathlib.Core.List.{List}
+use lib.Dec.{T, ltb, eqb}
 use Rattle.machine.specs.declared.Thread.{Thread}
-use Rattle.machine.specs.declared.Field.{Field}
-use Rattle.machine.specs.declared.Field.the-variants.{Req, Ret, Wait, Completed, Next}
-use Rattle.machine.specs.Fields.{fieldNumber}
-use Rattle.machine.specs.Accesses.{read, part}
-use Rattle.copies.specs.Remote.{hasCopyOf, remoteOf}
-use Rattle.invariant.specs.Stages.{Stage, Out, Wait as Waiting, Combine, idle, o2, o3, o4, o5, w6, w7, w8, w9, w10, w11, w12, c13, c14, c15, c16, c17, c18, c20, out, wait, combine, l19, l21, dummy, stageOf}
+use Rattle.machine.specs.Accesses.{Location, whole}
+use Rattle.copies.specs.Remote.{hasCopyOf}
+use Rattle.step.specs.Entry.{oneIf}
+use Rattle.invariant.specs.Stages.{Stage, Combine, c13, c14, c15, c16, c17, c18, c20, out, wait, combine, l19, l21, dummy, stageOf}
+use Rattle.invariant.specs.Ledger.{Ledger}
 use Rattle.invariant.specs.View.{View}
-use Rattle.invariant.specs.Control.{outRow, combineRow}
+use Rattle.invariant.specs.Control.{holding, outRow, combineRow}
 
--- whether a field is one of a list
-abbrev pub among : List Field → Field → Bool
-among [] f = false
-among (x ∷ xs) f = eqb (fieldNumber x) (fieldNumber f) || among xs f
+-- the location of the node of a number, and what its next access would cost thread u: 1 without a valid copy of it
+abbrev pub wholeOf : ℕ → Location
+wholeOf m = whole (record { 0 = m })
 
--- thread u has valid copies of these fields of a node
-abbrev pub Copied : List ℕ → ℕ → NodeId → List Field → Type 0
-Copied copies u m fields = (f : Field) → T (among fields f) → hasCopyOf copies u (part m f) ≡ true
+abbrev pub fetch : List ℕ → ℕ → ℕ → ℕ
+fetch copies u m = cond (hasCopyOf copies u (wholeOf m)) 0 1
 
--- at most so many remote references, and copies of these fields of curNode and of tmpNode
-pub record Within (copies : List ℕ) (u : ℕ) (cur tmp : NodeId) (cost bound : ℕ) (ofCur ofTmp : List Field) : Type 0 where
-  pub most : cost ≤ bound
-  pub cur-copied : Copied copies u cur ofCur
-  pub tmp-copied : Copied copies u tmp ofTmp
+-- how often at most other threads have written the node of position i while its thread waits: once at each of lines 16, 17 and 18, which serve it, or at
+-- line 20, which gives it the turn
+abbrev pub written : Ledger → ℕ → ℕ
+written g i = oneIf (ltb i (g .a)) + oneIf (ltb i (g .d)) + oneIf (ltb i (g .r)) + oneIf (eqb i (g .b))
 
--- the fields that a thread has accessed of its curNode when its turn begins
-abbrev pub allButRet : List Field
-allButRet = Req ∷ Next ∷ Wait ∷ Completed ∷ []
+-- how far the nodes that a thread has come to in its turn, besides its own, are behind the served counter: by one, since its own call is the first that it
+-- serves, but not at 14, before the counter grows, and at 20, where it has come to one more
+abbrev pub behind : Combine → ℕ
+behind c13 = 1
+behind c14 = 0
+behind c15 = 1
+behind c16 = 1
+behind c17 = 1
+behind c18 = 1
+behind c20 = 0
 
--- before Swap
-abbrev pub outMost : Out → ℕ
-outMost idle = 0
-outMost o2 = 0
-outMost o3 = 1
-outMost o4 = 2
-outMost o5 = 3
+-- the most at a stage, of a thread at position i that has served so many: its own node before Swap; Swap, curNode and a fetch of it after each write by another;
+-- in the turn one fetch for each node come to, and one more at line 20
+abbrev pub limit : Stage → Ledger → ℕ → ℕ → ℕ
+limit (out o) g i served = 1
+limit (wait w) g i served = 3 + written g i
+limit (combine c) g i served = 4 + (served - behind c)
+limit l19 g i served = 4 + (served - 1)
+limit l21 g i served = 5 + served
+limit dummy g i served = 0
 
--- waiting: the bound, the fields of curNode, and whether it spins on wait (9)
-pub record WaitCost : Type 0 where
-  pub most : ℕ
-  pub copied : List Field
-  pub spins : Bool
+-- the stages with an open call
+abbrev pub calling : Stage → Bool
+calling (out o) = outRow o .begun
+calling (wait w) = true
+calling (combine c) = true
+calling l19 = true
+calling l21 = true
+calling dummy = false
 
-abbrev pub waitCost : Waiting → WaitCost
-waitCost w6 = record { most = 4; copied = []; spins = false }
-waitCost w7 = record { most = 5; copied = Req ∷ []; spins = false }
-waitCost w8 = record { most = 6; copied = Req ∷ Next ∷ []; spins = false }
-waitCost w9 = record { most = 7; copied = Req ∷ Next ∷ []; spins = true }
-waitCost w10 = record { most = 8; copied = Req ∷ Next ∷ Wait ∷ []; spins = false }
-waitCost w11 = record { most = 9; copied = []; spins = false }
-waitCost w12 = record { most = 9; copied = allButRet; spins = false }
+-- and those in which tmpNode's next is known to be written (14 to 18)
+abbrev pub linkedTmp : Stage → Bool
+linkedTmp (out o) = false
+linkedTmp (wait w) = false
+linkedTmp (combine c) = combineRow c .linked
+linkedTmp l19 = false
+linkedTmp l21 = false
+linkedTmp dummy = false
 
--- in the turn: in its first round the bound and the fields of curNode, which is tmpNode; in a later round what is added to 5 for each that it served
-pub record TurnCost : Type 0 where
-  pub first : ℕ
-  pub copied : List Field
-  pub later : ℕ
+-- what a thread would pay for the nodes at hand: the one that it holds, and tmpNode while its next is known to be written
+abbrev pub owed : Stage → List ℕ → ℕ → Thread → ℕ
+owed s copies u th = fetch copies u (holding s th) + cond (linkedTmp s) (fetch copies u (th .tmp .0)) 0
 
-abbrev pub turnCost : Combine → TurnCost
-turnCost c13 = record { first = 9; copied = allButRet; later = 5 }
-turnCost c14 = record { first = 9; copied = allButRet; later = 6 }
-turnCost c15 = record { first = 9; copied = allButRet; later = 1 }
-turnCost c16 = record { first = 9; copied = allButRet; later = 1 }
-turnCost c17 = record { first = 10; copied = Wait ∷ Completed ∷ Ret ∷ []; later = 3 }
-turnCost c18 = record { first = 10; copied = Wait ∷ Ret ∷ []; later = 4 }
-turnCost c20 = record { first = 9; copied = []; later = 6 }
-
--- in a later round tmpNode's next is copied while it is known to be written (14 to 18)
-abbrev pub nextCopied : Combine → List Field
-nextCopied c = cond (combineRow c .linked) (Next ∷ []) []
-
--- the two kinds of rounds, of a thread that has served so many
-abbrev pub Rounds : (ℕ → List Field → List Field → Type 0) → Combine → ℕ → Type 0
-Rounds Bounded c served =
-    (served ≡ combineRow c .counted → Bounded (turnCost c .first) (turnCost c .copied) [])
-    × (combineRow c .counted < served → Bounded (5 * served + turnCost c .later) (Ret ∷ []) (nextCopied c))
-
--- thread u at a stage, with its node's wait: a spinning thread that has yet to see the end of its wait has made at most 7 with the next read of it
-abbrev pub Spent : Stage → List ℕ → ℕ → Thread → Bool → ℕ → Type 0
-Spent (out o) copies u th waits cost = T (outRow o .begun) → cost ≤ outMost o
-Spent (wait w) copies u th waits cost =
-    Within copies u (th .cur) (th .tmp) cost (waitCost w .most) (waitCost w .copied) []
-    × (T (waitCost w .spins) → waits ≡ true → cost + remoteOf copies u (read (th .cur) Wait) ≤ 7)
-Spent (combine c) copies u th waits cost = Rounds (Within copies u (th .cur) (th .tmp) cost) c (th .served)
-Spent l19 copies u th waits cost = Within copies u (th .cur) (th .tmp) cost (5 * th .served + 5) (Ret ∷ []) []
-Spent l21 copies u th waits cost = Within copies u (th .cur) (th .tmp) cost (5 * th .served + 7) (Ret ∷ []) []
-Spent dummy copies u th waits cost = Unit
+-- thread u at a stage: what its call has cost, with what it owes. An access of a node by the thread never raises this sum, since a remote one pays 1 and gets the
+-- copy; another's write raises it by 1 at most, and exactly these writes raise `written`
+abbrev pub Spent : Stage → Ledger → List ℕ → ℕ → Thread → ℕ → Type 0
+Spent s g copies u th cost = T (calling s) → cost + owed s copies u th ≤ limit s g (g .at u) (th .served)
 
 -- cost u counts the remote references of thread u's open call
-pub record Remote (n : ℕ) (v : View) (copies : List ℕ) (cost : ℕ → ℕ) : Type 0 where
-  pub spent : (u : ℕ) → u < n → Spent (stageOf (v .thread u .line)) copies u (v .thread u) (v .node (v .thread u .cur .0) .wait) (cost u)
+pub record Remote (n : ℕ) (v : View) (g : Ledger) (copies : List ℕ) (cost : ℕ → ℕ) : Type 0 where
+  pub spent : (u : ℕ) → u < n → Spent (stageOf (v .thread u .line)) g copies u (v .thread u) (cost u)

@@ -6,27 +6,27 @@ use Rattle.cells.specs.Text.{text}
 
 unfoldable pub exampleListings : List (List ℕ)
 exampleListings =
-    (text "CCS 1 counter n=1 h=1 calls=2 turns=2 blank=0 spin=0 remote=11\n"
-    ++ text "0 0 0 value 0 0 0 9 returned 0 20\n"
-    ++ text "1 0 1 value 5 0 1 2 returned 21 41\n")
-    ∷ (text "CCS 1 counter n=1 h=1 calls=1 turns=1 blank=0 spin=0 remote=9\n" ++ text "0 0 0 value 0 0 0 9 open 0 -\n")
-    ∷ (text "CCS 1 counter n=1 h=1 calls=1 turns=0 blank=0 spin=0 remote=4\n" ++ text "0 0 0 none - - - 4 open 0 -\n")
-    ∷ (text "CCS 1 queue n=1 h=1 calls=4 turns=4 blank=0 spin=0 remote=11\n"
-    ++ text "0 0 0 done 1 0 0 9 returned 0 20\n"
-    ++ text "1 0 1 full - 0 1 2 returned 21 41\n"
+    (text "CCS 1 counter n=1 h=1 calls=2 turns=2 blank=0 spin=0 remote=3\n"
+    ++ text "0 0 0 value 0 0 0 3 returned 0 20\n"
+    ++ text "1 0 1 value 5 0 1 0 returned 21 41\n")
+    ∷ (text "CCS 1 counter n=1 h=1 calls=1 turns=1 blank=0 spin=0 remote=3\n" ++ text "0 0 0 value 0 0 0 3 open 0 -\n")
+    ∷ (text "CCS 1 counter n=1 h=1 calls=1 turns=0 blank=0 spin=0 remote=2\n" ++ text "0 0 0 none - - - 2 open 0 -\n")
+    ∷ (text "CCS 1 queue n=1 h=1 calls=4 turns=4 blank=0 spin=0 remote=3\n"
+    ++ text "0 0 0 done 1 0 0 3 returned 0 20\n"
+    ++ text "1 0 1 full - 0 1 0 returned 21 41\n"
     ++ text "2 0 2 value 3 0 2 0 returned 42 62\n"
     ++ text "3 0 3 empty - 0 3 0 returned 63 83\n")
-    ∷ (text "CCS 1 stack n=1 h=1 calls=8 turns=8 blank=0 spin=0 remote=11\n"
-    ++ text "0 0 0 done 1 0 0 9 returned 0 20\n"
-    ++ text "1 0 1 done 2 0 1 2 returned 21 41\n"
+    ∷ (text "CCS 1 stack n=1 h=1 calls=8 turns=8 blank=0 spin=0 remote=3\n"
+    ++ text "0 0 0 done 1 0 0 3 returned 0 20\n"
+    ++ text "1 0 1 done 2 0 1 0 returned 21 41\n"
     ++ text "2 0 2 full - 0 2 0 returned 42 62\n"
     ++ text "3 0 3 value 8 0 3 0 returned 63 83\n"
     ++ text "4 0 4 done 2 0 4 0 returned 84 104\n"
     ++ text "5 0 5 value 6 0 5 0 returned 105 125\n"
     ++ text "6 0 6 value 9 0 6 0 returned 126 146\n"
     ++ text "7 0 7 empty - 0 7 0 returned 147 167\n")
-    ∷ (text "CCS 1 queue n=2 h=1 calls=2 turns=2 blank=0 spin=1 remote=20\n"
-    ++ text "0 0 0 done 1 0 0 10 returned 0 29\n"
-    ++ text "1 1 0 value 7 1 1 10 returned 8 42\n")
+    ∷ (text "CCS 1 queue n=2 h=1 calls=2 turns=2 blank=0 spin=1 remote=8\n"
+    ++ text "0 0 0 done 1 0 0 4 returned 0 29\n"
+    ++ text "1 1 0 value 7 1 1 4 returned 8 42\n")
     ∷ text "refused 1\n"
     ∷ []

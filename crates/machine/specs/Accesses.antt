@@ -1,4 +1,5 @@
 -- The shared accesses of a line, and the locations that they go to.
+-- An access is of one field; caches fetch nodes, so its location is the whole node: document 02, No. 5.
 use mathlib.Core.List.{List, [], _∷_, _++_}
 use Rattle.machine.specs.declared.NodeId.{NodeId}
 use Rattle.machine.specs.declared.Thread.{Thread}
@@ -21,15 +22,21 @@ pub data Access : Type 0 where
   write : NodeId → Field → Access
   swap : Access
 
--- a location is Tail or one field of one node
+-- the node of an access, of a Swap none
+abbrev pub nodeOf : Access → List NodeId
+nodeOf (read node field) = node ∷ []
+nodeOf (write node field) = node ∷ []
+nodeOf swap = []
+
+-- a location is Tail or a whole node
 pub data Location : Type 0 where
   tail : Location
-  part : NodeId → Field → Location
+  whole : NodeId → Location
 
--- the location of an access
+-- the location of an access, whatever its field
 abbrev pub located : Access → Location
-located (read node field) = part node field
-located (write node field) = part node field
+located (read node field) = whole node
+located (write node field) = whole node
 located swap = tail
 
 abbrev pub accessTo : NodeId → SharedAccess → List Access

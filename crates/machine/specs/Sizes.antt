@@ -1,13 +1,13 @@
 -- How much room a machine has: for 16 threads, with 16 requests each.
-use Prim.Native.Nat.{ℕ, _+_, _*_}
+use Prim.Native.Nat.{ℕ, _+_}
 
 -- nodes 0 to n: one for each thread, and the first dummy
 abbrev pub mostNodes : ℕ
 mostNodes = 17
 
--- the locations of a machine with so many nodes: Tail, and five fields of each
+-- the locations of a machine with so many nodes: Tail, and each of them
 abbrev pub locationsOf : ℕ → ℕ
-locationsOf nodes = 1 + 5 * nodes
+locationsOf nodes = 1 + nodes
 
 abbrev pub mostLocations : ℕ
 mostLocations = locationsOf mostNodes

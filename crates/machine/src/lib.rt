@@ -15,10 +15,10 @@ pub struct NodeId(pub u8);
 // Null is no node's number.
 pub const NULL: u8 = 255;
 
-// Room for nodes 0 to n, one for each of 16 threads and the first dummy; for Tail and five fields of each; and for 16 calls of each thread.
+// Room for nodes 0 to n, one for each of 16 threads and the first dummy; for Tail and each of them as locations; and for 16 calls of each thread.
 pub const NODES: usize = 17;
 
-pub const LOCATIONS: usize = 1 + 5 * NODES;
+pub const LOCATIONS: usize = 1 + NODES;
 
 pub const CALLS: usize = 256;
 

@@ -2,7 +2,7 @@
 -- and of `every`, the test of it. Assumes nothing.
 use Prim.Native.Nat.{ℕ, zero, suc, _<_}
 use native.Mathlib.Omega.{arith}
-use mathlib.Core.Path.{_≡_, refl, ap₂}
+use mathlib.Core.Path.{_≡_, refl, ap, ap₂}
 use mathlib.Core.Bool.{Bool, true, and-eq-true-iff}
 use mathlib.Core.List.{List, [], _∷_, _++_, map}
 use lib.ListN.{length, getD, take, drop, take-append-drop}
@@ -67,6 +67,11 @@ module _ {A B : Type 0} (P : B → Type 0) (of : A → B) where
 pub map-each : {A B : Type 0} (g h : A → B) (l : List A) → Each (λ a. g a ≡ h a) l → map g l ≡ map h l
 map-each g h [] e = refl
 map-each g h (a ∷ l) e = ap₂ _∷_ (e .0) (map-each g h l (e .1))
+
+-- and where the results are the same, each gives the same by both
+pub each-same : {A B : Type 0} (g h : A → B) (l : List A) → map g l ≡ map h l → Each (λ a. g a ≡ h a) l
+each-same g h [] e = tt
+each-same g h (a ∷ l) e = (ap (λ (s : List _). getD s 0 (g a)) e, each-same g h l (ap (drop 1) e))
 
 -- a test that each passes, said either way
 module _ {A : Type 0} (test : A → Bool) where

@@ -14,19 +14,19 @@ headPage = text "no  th rq ans   value      by turn  remote     state   \n"
 unfoldable pub examplePages : List (List ℕ)
 examplePages =
     (headPage
-    ++ text "  0  0  0 value          0  0     0          9 returned\n"
-    ++ text "  1  0  1 value          5  0     1          2 returned\n")
-    ∷ (headPage ++ text "  0  0  0 value          0  0     0          9 open    \n")
-    ∷ (headPage ++ text "  0  0  0 none  -          -  -              4 open    \n")
+    ++ text "  0  0  0 value          0  0     0          3 returned\n"
+    ++ text "  1  0  1 value          5  0     1          0 returned\n")
+    ∷ (headPage ++ text "  0  0  0 value          0  0     0          3 open    \n")
+    ∷ (headPage ++ text "  0  0  0 none  -          -  -              2 open    \n")
     ∷ headPage
     ∷ (headPage
-    ++ text "  0  0  0 done           1  0     0          9 returned\n"
-    ++ text "  1  0  1 full  -           0     1          2 returned\n"
+    ++ text "  0  0  0 done           1  0     0          3 returned\n"
+    ++ text "  1  0  1 full  -           0     1          0 returned\n"
     ++ text "  2  0  2 value          3  0     2          0 returned\n"
     ++ text "  3  0  3 empty -           0     3          0 returned\n")
     ∷ (headPage
-    ++ text "  0  0  0 done           1  0     0          9 returned\n"
-    ++ text "  1  0  1 done           2  0     1          2 returned\n"
+    ++ text "  0  0  0 done           1  0     0          3 returned\n"
+    ++ text "  1  0  1 done           2  0     1          0 returned\n"
     ++ text "  2  0  2 full  -           0     2          0 returned\n"
     ++ text "  3  0  3 value          8  0     3          0 returned\n"
     ++ text "  4  0  4 done           2  0     4          0 returned\n"
@@ -34,11 +34,11 @@ examplePages =
     ++ text "  6  0  6 value          9  0     6          0 returned\n"
     ++ text "  7  0  7 empty -           0     7          0 returned\n")
     ∷ (headPage
-    ++ text "  0  0  0 done           1  0     0         14 returned\n"
-    ++ text "  1  1  0 value          7  0     0         10 returned\n")
+    ++ text "  0  0  0 done           1  0     0          5 returned\n"
+    ++ text "  1  1  0 value          7  0     0          4 returned\n")
     ∷ (headPage
-    ++ text "  0  0  0 done           1  0     0         10 returned\n"
-    ++ text "  1  1  0 value          7  1     1         10 returned\n")
+    ++ text "  0  0  0 done           1  0     0          4 returned\n"
+    ++ text "  1  1  0 value          7  1     1          4 returned\n")
     ∷ []
 
 -- every number as large as a result can have it

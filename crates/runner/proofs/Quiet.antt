@@ -92,7 +92,7 @@ pub record Spinning (s : State) (t : ThreadId) : Type 0 where
   pub waits : node s t .wait ≡ true
   pub held : hasCopyOf (s .copies) (t .0) (located (read (target s t) Wait)) ≡ true
 
--- as the tests for it say, of the row's node and the place of its wait among the copies
+-- as the tests for it say, of the row's node and its place among the copies
 pub spinning : (s : State) (t : ThreadId) {m : NodeId} {at : ℕ} (has : Bool) → sameEvent (row s t .event) Spins ≡ true → m ≡ target s t → at ≡ copyPlace (located (read m Wait))
     → has ≡ hasCopy (getD (s .copies) at 0) (t .0) → (getD (s .nodes) (m .0) zeroNode .wait && has) ≡ true → Spinning s t
 spinning s t {m} has spins is placed copy both =

@@ -4,7 +4,6 @@ ghost use Rattle.bench_file.specs.Layout.{judgeOf};
 ghost use Rattle.runner.specs.Played.{Startable, playedFrom, unplayed, playedIn};
 use kept::Kept;
 use machine::Event;
-use machine::Field;
 use machine::ThreadId;
 use object::Answer;
 use state::Counts;
@@ -52,7 +51,7 @@ fn from_start(schedule: &[u8], start: State) -> Played
         let target = machine::pointed(pointer, named);
         let m = target.0 as usize;
         if machine::same_event(row_event, Event::Spins) {
-            let at = copies::place(target, Field::Wait);
+            let at = copies::place(target);
             if state.nodes[m].wait & copies::has_copy(state.copies[at], thread) {
                 state.counts.spins += 1;
                 i += 1;

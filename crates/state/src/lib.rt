@@ -27,7 +27,7 @@ pub struct Counts {
     pub remote: u32,
 }
 
-// Thread i's requests stand from place 16 · i on. The copies of Tail come first, then those of the five fields of each node.
+// Thread i's requests stand from place 16 · i on. The copies of Tail come first, then those of each node.
 pub struct State {
     pub n: u8,
     pub h: u8,

@@ -32,7 +32,7 @@ use Rattle.machine.specs.Sizes.{locationsOf, mostLocations}
 use Rattle.cc_lines.specs.Lines.{lineOf, lineRun}
 use Rattle.cc_synch.specs.Effect.{executed}
 use Rattle.copies.specs.Remote.{place, ends, copiesAfter, referred}
-use Rattle.copies.proofs.Holding.{field-number-below, copy-after}
+use Rattle.copies.proofs.Holding.{copy-after}
 use Rattle.state.specs.declared.Slot.{Slot}
 use Rattle.state.specs.Range.{reqInRange, slotInRange, rowOfThread, rowsInRange}
 use Rattle.state.proofs.RangeFacts.{Begun}
@@ -66,8 +66,8 @@ module _ (n : ℕ) (m : NodeId) (up-to : m .0 ≤ n) where
   -- the accesses of a line that points to such a node are near
   near-to : (a : SharedAccess) → Each (Near n) (accessTo m a)
   near-to NoAccess = tt
-  near-to (Read field) = (omega (arith, field-number-below field), tt)
-  near-to (Write field) = (omega (arith, field-number-below field), tt)
+  near-to (Read field) = (omega arith, tt)
+  near-to (Write field) = (omega arith, tt)
   near-to Swap = (omega arith, tt)
 
   pub near-of : (r : Row) → Each (Near n) (accessesOf r m)

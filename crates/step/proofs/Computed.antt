@@ -16,6 +16,6 @@ abbrev pub start : State
 start = freshState Counter 1 1 0 (3 ∷ replicate 15 0) adds
 
 pub sixty-four : stepsOf start (replicate 64 0) .refusal ≡ 0
-    × stepsOf start (replicate 64 0) .state .counts ≡ record { records = 3; turns = 3; blanks = 1; spins = 0; remote = 11 }
+    × stepsOf start (replicate 64 0) .state .counts ≡ record { records = 3; turns = 3; blanks = 1; spins = 0; remote = 3 }
 unfolding onwardOver
 sixty-four = (refl, refl)

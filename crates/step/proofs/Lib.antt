@@ -1,3 +1,4 @@
+pub mod Accessed
 pub mod Alike
 pub mod Computed
 pub mod EachLine

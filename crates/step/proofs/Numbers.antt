@@ -1,4 +1,4 @@
--- Laws of lines and their numbers, and of where a thread stands that runs one. Assumes nothing.
+-- Laws of lines and their numbers, of where a thread stands that runs one, and of a test as a number. Assumes nothing.
 use Prim.Native.Nat.{ℕ, zero, suc, _+_, _≤_, _<_}
 use native.Mathlib.Omega.{arith}
 use mathlib.Core.Path.{_≡_, refl, sym, ap, subst, _∙_}
@@ -11,6 +11,7 @@ use Rattle.object.specs.Each.{Each}
 use Rattle.object.proofs.Each.{each-getD-or}
 use Rattle.cc_lines.specs.Lines.{Line, printed, lineOf, L0, L1, L2, L3, L4, L5, L6, L7, L8, L9, L10, L11, L12, L13, L14, L15, L16, L17, L18, L19, L20, L21}
 use Rattle.state.specs.Range.{lineInRange}
+use Rattle.step.specs.Entry.{oneIf}
 use Rattle.step.specs.Numbers.{number, standsAt}
 
 -- the numbers of a list's lines are i and those that follow
@@ -87,3 +88,8 @@ runs-next (suc (suc k)) left e =
       printed = leb-true _ _ (p .1);
       begins = λ h. absurd (omega arith);
     })
+
+-- a test counts one at most
+pub at-most-one : (test : Bool) → oneIf test ≤ 1
+at-most-one true = omega arith
+at-most-one false = omega arith

@@ -27,7 +27,7 @@ pub record PastKept (s s′ : State) : Type 0 where
   -- the items past those held after the step: a put writes the first place past those held before it, which it then holds
   pub items : drop (s′ .object .held) (s′ .object .items) ≡ drop (s′ .object .held) (s .object .items)
 
--- each thread below n has a valid copy in both or in neither, of Tail and of each field of nodes 0 to n
+-- each thread below n has a valid copy in both or in neither, of Tail and of nodes 0 to n
 abbrev pub SameCopies : ℕ → List ℕ → List ℕ → Type 0
 SameCopies n copies copies′ = (t : ℕ) → t < n → (l : Location) → place l < locationsOf (n + 1) → hasCopyOf copies t l ≡ hasCopyOf copies′ t l
 

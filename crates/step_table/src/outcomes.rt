@@ -30,7 +30,7 @@ limit, line 18, no copies: q l1=18 W165=168 R255,T255,B255,L255,M255,U254,
 limit, line 20, no copies: q l1=20 W165=168 R255,T255,B255,L255,M255,U254,
 limit, line 21, no copies: q l1=21 W165=168 R255,T255,B255,L255,M255,U254,",
     );
-    // Thread 1 has all copies, or one of two; the other causes; counts as far below the limit as the line adds.
+    // Thread 1 has all copies, that of line 16's node, or of other nodes; the other causes; counts as far below the limit as the line adds.
     table(
         1,
         b"limit, line 3, copies: q l1=3 W165=170 R255,T255,B255,L255,M255,U254,
@@ -39,8 +39,8 @@ limit, line 9 spin, copies: q l1=9 w2=1 W165=170 R255,T255,B255,L255,M255,U254,
 limit, line 13, copies: q l1=13 W165=170 R255,T255,B255,L255,M255,U254,
 limit, line 16, copies: q l1=16 W165=170 R255,T255,B255,L255,M255,U254,
 limit, line 21, copies: q l1=21 W165=170 R255,T255,B255,L255,M255,U254,
-limit, line 16, copy of req: q l1=16 z3 R255,T255,B255,L255,M255,U254,
-limit, line 16, copy of ret: q l1=16 z1 R255,T255,B255,L255,M255,U254,
+limit, line 16, copy of its node: q l1=16 z6 R255,T255,B255,L255,M255,U254,
+limit, line 16, copies of other nodes: q l1=16 z0 R255,T255,B255,L255,M255,U254,
 line 14, served 5: q l1=14 v1=5 h5,6,
 line 19, null tmpnext: q l1=19 x1=255.
 line 15, null next: q l1=15 f3=255.
@@ -53,7 +53,7 @@ line 21, empty ret of another node: q l1=21 N3=0.
 line 9 spin, spins and remote at the limit: q l1=9 w2=1 L255 M255 W0=0.
 line 9 spin, spins and remote one below: q l1=9 w2=1 L254 M254 W0=0.
 line 5, records and remote one below: q l1=5 R254 M254 W0=0.
-line 16, remote two below: q l1=16 R255 M253 W0=0.
+line 16, remote one below: q l1=16 R255 M254 W0=0.
 line 12, turns one below: q l1=12 T254 M255 W0=0.
 blank, blanks one below: q b1=3 B254 M255 W0=0.",
     );

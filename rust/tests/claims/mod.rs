@@ -1,4 +1,4 @@
-//! Demand 3 of document 01 and what requests No. 1 and 3 of document 02 add to it, so far as they can be seen
+//! Demand 3 of document 01 and what requests No. 1, 3 and 5 of document 02 make of it, so far as they can be seen
 //! from outside: evaluated on the records and counts that a bench returns for every cut of one schedule,
 //! on the cuts themselves, and on the file's fields alone.
 
@@ -59,7 +59,7 @@ fn check_cut(file: &Fields, after: &After) -> Result<(), String> {
     check_servings(file, &counts, records)?;
     check_answers(file, records)?;
     check_turns(file, &counts, records)?;
-    check_costs(file, &counts, records)
+    check_costs(file, schedule, &counts, records)
 }
 
 /// Records name calls of the file, each once: a thread's calls in their order, one at a time.
@@ -226,7 +226,12 @@ fn check_turns(file: &Fields, counts: &Counts, records: &[RecordBytes]) -> Resul
 }
 
 /// The bounds on a returned call, and what the total is beside the records' costs.
-fn check_costs(file: &Fields, counts: &Counts, records: &[RecordBytes]) -> Result<(), String> {
+fn check_costs(
+    file: &Fields,
+    schedule: &[u8],
+    counts: &Counts,
+    records: &[RecordBytes],
+) -> Result<(), String> {
     let mut sum = 0;
     for (i, record) in records.iter().enumerate() {
         sum += u64::from(number(record, 8));
@@ -236,29 +241,28 @@ fn check_costs(file: &Fields, counts: &Counts, records: &[RecordBytes]) -> Resul
                 .take_while(|other| turn(other) == turn(record))
                 .count();
             claim(
-                number(record, 8) as usize <= 5 * k + 7,
-                "a call that combined costs at most 5k + 7",
+                number(record, 8) as usize <= k + 5,
+                "a call that combined costs at most k + 5",
             )?;
         } else if returned(record) {
             claim(
-                number(record, 8) <= 10,
-                "a call served by another thread costs at most 10",
+                number(record, 8) <= 6,
+                "a call served by another thread costs at most 6",
             )?;
         }
     }
-    let total = u64::from(counts.remote);
+    // Before its Swap a call accesses its thread's own node alone, which no other thread writes then.
+    // A thread's first call fetches it at line 2; a later call finds the copy with which the last one returned.
+    let fetched = |&thread: &u8| {
+        let mut entries = schedule.iter().filter(|&&entry| entry == thread);
+        file.counts[usize::from(thread)] > 0
+            && entries.nth(1).is_some()
+            && records.iter().all(|record| record[0] != thread)
+    };
+    let before_swap = (0..file.n).filter(fetched).count();
     claim(
-        sum <= total,
-        "the total is at least the sum over the records",
-    )?;
-    // Before its Swap a call has at most the three accesses of lines 2 to 4.
-    let calling = (0..file.n).filter(|&thread| !exhausted(file, records, thread));
-    let unswapped = calling
-        .filter(|&thread| open_call(records, thread).is_none())
-        .count();
-    claim(
-        total - sum <= 3 * unswapped as u64,
-        "a call before its Swap costs at most 3",
+        u64::from(counts.remote) == sum + before_swap as u64,
+        "the total is the records' costs, and 1 for each first call between line 2 and Swap",
     )
 }
 
@@ -282,8 +286,8 @@ fn check_counts(before: &After, after: &After) -> Result<(), String> {
         "an entry adds 0 or 1 to the spins",
     )?;
     claim(
-        grows(old.remote, new.remote, 2),
-        "an entry adds 0 to 2 to the remote references",
+        grows(old.remote, new.remote, 1),
+        "an entry adds 0 or 1 to the remote references",
     )
 }
 
@@ -343,10 +347,13 @@ fn check_entry(file: &Fields, before: &After, entry: u8, after: &After) -> Resul
         events.iter().filter(|&&event| event).count() <= 1,
         "an entry is one line",
     )?;
-    claim(remote <= 1 || applies, "only line 16 has two accesses")?;
     claim(
         remote == 0 || !(begins || blank),
         "line 12 and a blank have no access",
+    )?;
+    claim(
+        remote == 0 || !(applies || returns),
+        "at lines 11, 16 and 21 the thread has a copy of the node",
     )?;
     claim(
         blank == exhausted(file, before.records, entry),
@@ -371,9 +378,11 @@ fn check_entry(file: &Fields, before: &After, entry: u8, after: &After) -> Resul
             own_entries.count() == 5,
             "a call's Swap is its fifth entry, and its line 1 the first",
         )?;
+        let first = record[1] == 0;
+        let again = before.records.last().is_some_and(|last| last[0] == entry);
         claim(
-            number(record, 8) <= 4,
-            "a call costs at most 4 up to its Swap",
+            number(record, 8) == u32::from(first) + u32::from(!again),
+            "a call fetches its node if it is its thread's first, and Tail unless its thread swapped last",
         )?;
     }
     if begins {
@@ -387,6 +396,11 @@ fn check_entry(file: &Fields, before: &After, entry: u8, after: &After) -> Resul
     if spins {
         let serves_itself = own.is_some_and(|i| before.records[i][3] == entry);
         claim(!serves_itself, "a call that combined spins no more")?;
+        let served = own.is_some_and(|i| i < a);
+        claim(
+            remote == 0 || served,
+            "before it is served a call spins on a valid copy",
+        )?;
     }
     if applies {
         let record = &after.records[a];

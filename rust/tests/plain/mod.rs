@@ -1,4 +1,4 @@
-//! An independent implementation of document 01, with requests No. 1 to 3 of document 02, and of Algorithm 1
+//! An independent implementation of document 01, with requests No. 1 to 3 and 5 of document 02, and of Algorithm 1
 //! in source 004 (CC-Synch), written from these papers, with expected listings and pages to try it on, and, but for the count of request
 //! No. 3, without the code that it is compared with.
 
@@ -270,44 +270,40 @@ struct Access {
     remote: u32,
 }
 
-/// Tail or one field of one node, with the set of the threads that have a valid copy.
+/// Tail or a whole node, with the set of the threads that have a valid copy.
 #[derive(Clone, Copy)]
 struct Location<T> {
     value: T,
     copies: u16,
 }
 
-impl<T: Copy> Location<T> {
+impl<T> Location<T> {
     const fn new(value: T) -> Self {
         Location { value, copies: 0 }
     }
 
-    fn read(&mut self, access: &mut Access) -> T {
+    /// The value, to read. The access is remote if the thread has no valid copy; then it has one.
+    fn read(&mut self, access: &mut Access) -> &T {
         access.remote += u32::from(self.copies & access.thread == 0);
         self.copies |= access.thread;
-        self.value
+        &self.value
     }
 
-    fn write(&mut self, value: T, access: &mut Access) {
-        self.swap(value, access);
-    }
-
-    /// Ends every other thread's copy, as a write does.
-    fn swap(&mut self, value: T, access: &mut Access) -> T {
+    /// The value, to be written: of a node, one field. Remote as a read is; every other thread's copy ends.
+    fn write(&mut self, access: &mut Access) -> &mut T {
         access.remote += u32::from(self.copies & access.thread == 0);
         self.copies = access.thread;
-        std::mem::replace(&mut self.value, value)
+        &mut self.value
     }
 }
 
-/// A node. `ret` has no value here: line 16 puts the answer into the call's record.
+/// A node. It holds no ret: line 16 puts the answer into the call's record.
 #[derive(Clone, Copy)]
 struct Node {
-    req: Location<Announced>,
-    ret: Location<()>,
-    wait: Location<bool>,
-    completed: Location<bool>,
-    next: Location<usize>,
+    req: Announced,
+    wait: bool,
+    completed: bool,
+    next: usize,
 }
 
 /// What req holds: a request, and the record of its call.
@@ -319,14 +315,13 @@ struct Announced {
 
 /// A node at the start. Line 6 fills req before anyone reads it, so a take may stand for empty.
 const FRESH: Node = Node {
-    req: Location::new(Announced {
+    req: Announced {
         request: Request::Take,
         record: 0,
-    }),
-    ret: Location::new(()),
-    wait: Location::new(false),
-    completed: Location::new(false),
-    next: Location::new(NULL),
+    },
+    wait: false,
+    completed: false,
+    next: NULL,
 };
 
 // ---- The object ----
@@ -426,7 +421,7 @@ struct Thread<'a> {
 
 struct Machine<'a> {
     threads: [Thread<'a>; 16],
-    nodes: [Node; 17],
+    nodes: [Location<Node>; 17],
     tail: Location<usize>,
     object: Object,
     h: u8,
@@ -453,7 +448,7 @@ impl<'a> Machine<'a> {
         };
         Machine {
             threads: std::array::from_fn(thread),
-            nodes: [FRESH; 17],
+            nodes: [Location::new(FRESH); 17],
             tail: Location::new(0),
             object: Object {
                 queue: bench.object == QUEUE,
@@ -506,33 +501,32 @@ impl<'a> Machine<'a> {
                 thread.remote = 0;
                 line = 2;
             }
-            2 => nodes[thread.node].next.write(NULL, access),
-            3 => nodes[thread.node].wait.write(true, access),
-            4 => nodes[thread.node].completed.write(false, access),
+            2 => nodes[thread.node].write(access).next = NULL,
+            3 => nodes[thread.node].write(access).wait = true,
+            4 => nodes[thread.node].write(access).completed = false,
             5 => {
-                thread.cur_node = tail.swap(thread.node, access);
+                thread.cur_node = std::mem::replace(tail.write(access), thread.node);
                 thread.record = counts.records as u16;
                 counts.records += 1;
                 open(out, thread.record, entry, thread.begun - 1, thread.began);
             }
             6 => {
                 let request = Request::of(thread.requests, thread.begun - 1);
-                let announced = Announced {
+                nodes[thread.cur_node].write(access).req = Announced {
                     request,
                     record: thread.record,
                 };
-                nodes[thread.cur_node].req.write(announced, access);
             }
-            7 => nodes[thread.cur_node].next.write(thread.node, access),
+            7 => nodes[thread.cur_node].write(access).next = thread.node,
             8 => thread.node = thread.cur_node,
             9 => {
-                if nodes[thread.cur_node].wait.read(access) {
+                if nodes[thread.cur_node].read(access).wait {
                     counts.spins += 1;
                     line = 9;
                 }
             }
             10 => {
-                let completed = nodes[thread.cur_node].completed.read(access);
+                let completed = nodes[thread.cur_node].read(access).completed;
                 line = if completed { 11 } else { 12 };
             }
             12 => {
@@ -541,7 +535,7 @@ impl<'a> Machine<'a> {
                 counts.turns += 1;
             }
             13 => {
-                let next = nodes[thread.tmp_node].next.read(access);
+                let next = nodes[thread.tmp_node].read(access).next;
                 line = if next != NULL && thread.counter < *h {
                     14
                 } else {
@@ -549,24 +543,25 @@ impl<'a> Machine<'a> {
                 };
             }
             14 => thread.counter += 1,
-            15 => thread.tmp_node_next = nodes[thread.tmp_node].next.read(access),
+            15 => thread.tmp_node_next = nodes[thread.tmp_node].read(access).next,
+            // Two accesses of one node: req is read, ret is written with the copy that the read made valid.
             16 => {
                 let node = &mut nodes[thread.tmp_node];
-                let Announced { request, record } = node.req.read(access);
+                let Announced { request, record } = node.read(access).req;
                 let answer = object.apply(request);
-                node.ret.write((), access);
+                node.write(access);
                 serve(out, record, answer, entry, thread.turn);
             }
-            17 => nodes[thread.tmp_node].completed.write(true, access),
-            18 => nodes[thread.tmp_node].wait.write(false, access),
+            17 => nodes[thread.tmp_node].write(access).completed = true,
+            18 => nodes[thread.tmp_node].write(access).wait = false,
             19 => {
                 thread.tmp_node = thread.tmp_node_next;
                 line = 13;
             }
-            20 => nodes[thread.tmp_node].wait.write(false, access),
-            // 11 and 21: the call returns.
+            20 => nodes[thread.tmp_node].write(access).wait = false,
+            // 11 and 21: ret is read, and the call returns.
             _ => {
-                nodes[thread.cur_node].ret.read(access);
+                nodes[thread.cur_node].read(access);
                 cost(out, thread.record, thread.remote + access.remote);
                 returns(out, thread.record, place);
                 line = 0;

@@ -10,8 +10,8 @@ use Rattle.copies.proofs.refer.Tie as tie
 enum-told : tie.Need-enum-told
 enum-told c = search needs
 
-enum-known-access : tie.Need-enum-known-access
-enum-known-access c = search needs
+enum-told-2 : tie.Need-enum-told-2
+enum-told-2 c = search needs
 
 place-requires : tie.Need-place-requires
 place-requires c κs = search needs
@@ -19,8 +19,8 @@ place-requires c κs = search needs
 refer-at-requires : tie.Need-refer-at-requires
 refer-at-requires c κs = search needs
 
-enum-known-access-2 : tie.Need-enum-known-access-2
-enum-known-access-2 c = search needs
+enum-told-3 : tie.Need-enum-told-3
+enum-told-3 c = search needs
 
 place-requires-2 : tie.Need-place-requires-2
 place-requires-2 c κs = search needs
@@ -28,8 +28,8 @@ place-requires-2 c κs = search needs
 refer-at-requires-2 : tie.Need-refer-at-requires-2
 refer-at-requires-2 c κs = search needs
 
-enum-told-2 : tie.Need-enum-told-2
-enum-told-2 c = search needs
+enum-told-4 : tie.Need-enum-told-4
+enum-told-4 c = search needs
 
 refer-at-requires-3 : tie.Need-refer-at-requires-3
 refer-at-requires-3 c κs = search needs
@@ -42,8 +42,8 @@ same-length c = search needs
 
 returns-2 : tie.Need-returns-2
 returns-2 c =
-    let a = c .before .before .before .before .before .before .before .before .before .args in
-    let f = c .before .before .before .before .before .before .access .given in
+    let a = c .before .before .before .before .before .before .before .before .args in
+    let f = c .before .before .before .before .before .enum-told2 .given in
     let e = c .before .before .refer-at .ensures in
     rw (f .1) (one-referred (a .n) (a .thread .0) (a .copies .now) (c .before .before .before .place .result) (read (a .node) (f .0 .0)) (c .before .before .before .place .ensures) (e .0) (e .1))
 
@@ -52,8 +52,8 @@ same-length-2 c = search needs
 
 returns-3 : tie.Need-returns-3
 returns-3 c =
-    let a = c .before .before .before .before .before .before .before .before .before .args in
-    let f = c .before .before .before .before .before .before .access2 .given in
+    let a = c .before .before .before .before .before .before .before .before .args in
+    let f = c .before .before .before .before .before .enum-told3 .given in
     let e = c .before .before .refer-at2 .ensures in
     rw (f .1) (one-referred (a .n) (a .thread .0) (a .copies .now) (c .before .before .before .place2 .result) (write (a .node) (f .0 .0)) (c .before .before .before .place2 .ensures) (e .0) (e .1))
 
@@ -64,20 +64,20 @@ returns-4 : tie.Need-returns-4
 returns-4 c =
     let a = c .before .before .before .before .before .before .before .args in
     let e = c .before .before .refer-at3 .ensures in
-    rw (c .before .before .before .before .enum-told2 .given .1) (one-referred (a .n) (a .thread .0) (a .copies .now) 0 swap refl (e .0) (e .1))
+    rw (c .before .before .before .before .enum-told4 .given .1) (one-referred (a .n) (a .thread .0) (a .copies .now) 0 swap refl (e .0) (e .1))
 
 pub refer-spec : {M : Type 1} → statement M
 refer-spec =
     tie.close
     (tie.spec
     enum-told
-    enum-known-access
+    enum-told-2
     place-requires
     refer-at-requires
-    enum-known-access-2
+    enum-told-3
     place-requires-2
     refer-at-requires-2
-    enum-told-2
+    enum-told-4
     refer-at-requires-3
     returns
     same-length

@@ -1,0 +1,77 @@
+-- The bounds of request No. 5 are the least: for a call that another thread served, and for k from 1 to 15 for one that combined and served k. Assumes nothing.
+use Prim.Native.Nat.{ℕ, zero, suc, _≤_, _<_}
+use native.Mathlib.Omega.{arith}
+use mathlib.Core.Path.{_≡_, refl, ap, _∙_}
+use mathlib.Core.Bool.{Bool, true, false, false≢true}
+use mathlib.Core.List.{List, map}
+use mathlib.Core.Logic.{_↔_}
+use lib.Dec.{ltb}
+use borrow.Author.Tests.{ltb-true, not-true}
+use Rattle.object.specs.Each.{Each}
+use Rattle.object.proofs.Choice.{by-equal}
+use Rattle.object.proofs.Each.{each-map, each-same, every-each}
+use Rattle.bench_file.specs.Reading.{field, littleEndian, byte, ruledByte, several, end}
+use Rattle.bench_file.specs.Layout.{Fields, Judgement, accepted, refusedBy, startReader, limitsReader, headReader, requestReader, rowReader, scheduleReader, fileReader, judgeOf}
+use Rattle.bench_file.specs.Bytes.{Byte, lowFirst, eachBytes, bytesOf}
+use Rattle.bench_file.proofs.RoundTrip.{accepted-in-range}
+use Rattle.history.specs.Terms.{Call, returned, servings, shownOf}
+use Rattle.claims.specs.Entries.{entriesFrom, historyOf}
+use Rattle.claims.specs.Claims.{mostByAnother, mostCombining, ReturnedCall}
+use Rattle.claims.specs.Sharp.{Became, becameBy, ByAnother, Combining, Bounds, Sharp, byAnotherSharp, combiningSharp, combiningUpTo, sharpRuns, run, told}
+use Rattle.claims.proofs.Theorem.{claim-whole}
+
+-- each file is judged from its bytes and run
+pub sharp-runs : map run sharpRuns ≡ map told sharpRuns
+unfolding judgeOf fileReader headReader startReader limitsReader rowReader requestReader scheduleReader ruledByte byte several field littleEndian end lowFirst eachBytes bytesOf entriesFrom sharpRuns
+sharp-runs = refl
+
+abbrev Reached : Sharp → Type 0
+Reached r = run r ≡ told r
+
+by-another-reached : Reached byAnotherSharp
+unfolding sharpRuns
+by-another-reached = each-same run told sharpRuns sharp-runs .0
+
+combining-reached : (others : ℕ) → others < 15 → Reached (combiningSharp others)
+unfolding sharpRuns
+combining-reached others few = among 15 (each-same run told sharpRuns sharp-runs .1) few
+  where
+    among : (most : ℕ) → Each Reached (combiningUpTo most) → others < most → Reached (combiningSharp others)
+    among zero each h = absurd (omega arith)
+    among (suc most) each h = by-equal others most (λ e. rw e (each .0)) (λ d. among most (each .1) (omega arith))
+
+-- no bound is below what a call has cost
+module _ (So : Became → Type 0) (r : Sharp) (reached : Reached r) (over : r .said .returned ≡ true) (so : So (r .said)) (b : ℕ) (bounds : Bounds So b) where
+  each-byte : Each Byte (r .file)
+  each-byte = each-map (λ x e. ltb-true x 256 e) (r .file) (every-each (λ x. ltb x 256) (r .file) (ap (λ (p : Bool × Became). p .0) reached))
+
+  by-judgement : (j : Judgement) → judgeOf (r .file) ≡ j → becameBy j (r .call) ≡ r .said → r .said .cost ≤ b
+  by-judgement (accepted f) judged same = rw (← same) (bounds (r .file) f each-byte judged (r .call) (rw same so))
+  by-judgement (refusedBy number) judged same = absurd (false≢true (ap (λ (w : Became). w .returned) same ∙ over))
+
+  needed : r .said .cost ≤ b
+  needed = by-judgement (judgeOf (r .file)) refl (ap (λ (p : Bool × Became). p .1) reached)
+
+-- a returned call of an accepted file's run, as the claim has it
+settled : (bytes : List ℕ) (f : Fields) → Each Byte bytes → judgeOf bytes ≡ accepted f → (c : Call) → returned c (historyOf f) ≡ true
+    → ReturnedCall (historyOf f) c (shownOf c (servings (historyOf f)))
+settled bytes f each judged c over = claim-whole f (accepted-in-range bytes f each judged) .settled c over
+
+pub by-another-exactly : (b : ℕ) → Bounds ByAnother b ↔ (mostByAnother ≤ b)
+by-another-exactly b = (
+  needed ByAnother byAnotherSharp by-another-reached refl (record { returned = refl; by-another = refl }) b,
+  λ more bytes f each judged c so. omega (arith, settled bytes f each judged c (so .returned) .by-another (not-true _ (so .by-another))),
+)
+
+-- a bound for every k
+pub combining-bounded : (k b : ℕ) → mostCombining k ≤ b → Bounds (Combining k) b
+combining-bounded k b more bytes f each judged c so =
+    omega (arith, settled bytes f each judged c (so .returned) .combining (so .combined), so .in-turn)
+
+-- and for these the least
+pub combining-exactly : (k b : ℕ) → 1 ≤ k → k ≤ 15 → Bounds (Combining k) b ↔ (mostCombining k ≤ b)
+combining-exactly zero b some few = absurd (omega arith)
+combining-exactly (suc others) b some few = (
+  needed (Combining (suc others)) (combiningSharp others) (combining-reached others (omega arith)) refl (record { returned = refl; combined = refl; in-turn = refl }) b,
+  combining-bounded (suc others) b,
+)

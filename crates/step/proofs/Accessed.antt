@@ -1,0 +1,30 @@
+-- The accesses of an entry are those of document 01's table. Assumes a line's number.
+use Prim.Native.Nat.{ℕ, _≤_}
+use mathlib.Core.Path.{_≡_, refl, ap, _∙_}
+use mathlib.Core.List.{List, []}
+use Rattle.object.proofs.Each.{each-same}
+use Rattle.machine.specs.declared.ThreadId.{ThreadId}
+use Rattle.machine.specs.declared.Thread.{Thread}
+use Rattle.machine.specs.Accesses.{Access, pointed, accessesOf}
+use Rattle.cc_lines.specs.Lines.{Line, printed, lineOf, rowOf}
+use Rattle.cc_lines.specs.Said.{sharedAccesses, beside}
+use Rattle.cc_lines.proofs.Table.{as-tabled}
+use Rattle.state.specs.declared.State.{State}
+use Rattle.step.specs.Entry.{named, line, accesses}
+use Rattle.step.specs.Numbers.{number}
+use Rattle.step.proofs.Numbers.{number-of, each-line}
+
+-- a line's accesses, and what stands beside its number; a blank has none
+module _ (th : Thread) where
+  abbrev made : Line → List Access
+  made l = accessesOf (rowOf l) (pointed (rowOf l .node) th)
+
+  abbrev said : Line → List Access
+  said l = beside [] (number l) (sharedAccesses th)
+
+  line-as-tabled : (l : Line) → made l ≡ said l
+  line-as-tabled = each-line (λ l. made l ≡ said l) (refl, each-same made said printed (as-tabled th))
+
+pub entry-as-tabled : (s : State) (t : ThreadId) → line s t ≤ 21 → accesses s t ≡ beside [] (line s t) (sharedAccesses (named s t))
+entry-as-tabled s t h =
+    line-as-tabled (named s t) (lineOf (line s t)) ∙ ap (λ (k : ℕ). beside [] k (sharedAccesses (named s t))) (number-of (line s t) h)
