@@ -11,10 +11,9 @@ use Rattle.machine.specs.declared.Thread.{Thread}
 use Rattle.machine.specs.declared.Field.the-variants.{Req, Ret, Wait}
 use Rattle.machine.specs.declared.Event.the-variants.{Swaps, Applies, Returns, Spins, Other}
 use Rattle.machine.specs.declared.Row.{Row}
-use Rattle.machine.specs.Accesses.{pointed, accessesOf}
 use Rattle.machine.specs.Events.{sameEvent}
 use Rattle.machine.proofs.Rows.{readsField, writesField, swapsTail}
-use Rattle.cc_lines.specs.Lines.{Line, L0, printed, lineOf, printedLine, rowOf}
+use Rattle.cc_lines.specs.Lines.{Line, L0, printed, lineOf, printedLine, rowOf, accessesBy}
 use Rattle.cc_lines.specs.Said.{sharedAccesses, saidEvents, beside}
 
 -- place k of the table holds printed line k + 1
@@ -27,8 +26,7 @@ upFrom k zero = []
 upFrom k (suc n) = k ∷ upFrom (suc k) n
 
 -- lines 1 to 21 make the accesses that document 01's table has beside their numbers, and no others
-pub as-tabled : (th : Thread)
-    → map (λ l. accessesOf (rowOf l) (pointed (rowOf l .node) th)) printed ≡ map (λ k. beside [] k (sharedAccesses th)) (upFrom 1 21)
+pub as-tabled : (th : Thread) → map (accessesBy th) printed ≡ map (λ k. beside [] k (sharedAccesses th)) (upFrom 1 21)
 as-tabled th = refl
 
 -- an entry of each is what document 01 says of its number

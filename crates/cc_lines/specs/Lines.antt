@@ -17,6 +17,7 @@ use Rattle.machine.specs.declared.SharedAccess.the-variants.{NoAccess, Read, Wr
 use Rattle.machine.specs.declared.Event.{Event}
 use Rattle.machine.specs.declared.Event.the-variants.{Blank, CallBegins, Swaps, TurnBegins, Applies, TurnEnds, Returns, Spins, Other}
 use Rattle.machine.specs.declared.Row.{Row}
+use Rattle.machine.specs.Accesses.{Access, pointed, accessesOf}
 use Rattle.machine.specs.Fields.{null, isNull}
 use Rattle.machine.specs.Events.{sameEvent}
 use Rattle.cc_lines.specs.declared.PrintedLine.{PrintedLine}
@@ -93,6 +94,10 @@ rowFrom (Two node first second event) = record { node = node; first = first; sec
 
 abbrev pub rowOf : Line → Row
 rowOf l = rowFrom (printedLine l)
+
+-- the accesses of a line, in order; the thread gives the nodes
+abbrev pub accessesBy : Thread → Line → List Access
+accessesBy th l = accessesOf (rowOf l) (pointed (rowOf l .node) th)
 
 -- the line that follows a line, by what it finds: the node that it points to, the served counter and h. 0 is idle
 module _ (x : Node) (served h : ℕ) where

@@ -16,9 +16,9 @@ use Rattle.object.proofs.Each.{each-map}
 use Rattle.machine.specs.declared.NodeId.{NodeId}
 use Rattle.machine.specs.declared.Field.{Field}
 use Rattle.machine.specs.declared.Field.the-variants.{Req, Ret, Wait, Completed, Next}
-use Rattle.machine.specs.Accesses.{pointed, Access, read, write, accessesOf}
+use Rattle.machine.specs.Accesses.{Access, read, write}
 use Rattle.machine.specs.Sizes.{mostLocations}
-use Rattle.cc_lines.specs.Lines.{Line, L0, L1, L2, L3, L4, L5, L6, L7, L8, L9, L10, L11, L12, L13, L14, L15, L16, L17, L18, L19, L20, L21, rowOf}
+use Rattle.cc_lines.specs.Lines.{Line, L0, L1, L2, L3, L4, L5, L6, L7, L8, L9, L10, L11, L12, L13, L14, L15, L16, L17, L18, L19, L20, L21, accessesBy}
 use Rattle.copies.specs.Remote.{place, ends}
 use Rattle.step.specs.Entry.{oneIf}
 use Rattle.step.specs.Numbers.{number, standsAt}
@@ -32,12 +32,9 @@ use Rattle.invariant.proofs.Slots.{in-queue}
 use Rattle.invariant.proofs.Seats.{holds, now, stage-at, node-bound, owner, whose}
 use Rattle.invariant.proofs.Copies.{Of, Fits, Misses}
 
--- the node that thread t's line points to, and the line's accesses
-abbrev pub aimed : View → ℕ → Line → NodeId
-aimed v t l = pointed (rowOf l .node) (v .thread t)
-
+-- the accesses of thread t's line
 abbrev pub made : View → ℕ → Line → List Access
-made v t l = accessesOf (rowOf l) (aimed v t l)
+made v t l = accessesBy (v .thread t) l
 
 -- the ledger after thread t's line
 abbrev pub notedBy : ℕ → View → ℕ → Ledger → Line → Ledger
@@ -67,7 +64,7 @@ passed-grows i a a′ k = by-order i a (λ p. rw (lt-ltb i a p, lt-ltb i a′ (o
 turn-grows : (i b b′ : ℕ) → (i ≡ b → b′ ≡ b) → oneIf (eqb i b) ≤ oneIf (eqb i b′)
 turn-grows i b b′ e = by-equal i b (λ q. rw (e q) (omega arith)) (λ q. rw (ne-eqb i b q) (omega arith))
 
--- position i is not below a count that is there, and is below it when the count has grown by one; i + 0 is how a stage's row says that it is there
+-- position i is not below a count that is there, and is below it when the count has grown by one; the sum i + 0 is as `combineRow` states it
 comes-past : (i a : ℕ) → a ≡ i + 0 → (oneIf (ltb i a) ≡ 0) × (oneIf (ltb i (suc a)) ≡ 1)
 comes-past i a e = (rw (le-ltb i a (omega arith)), rw (lt-ltb i (suc a) (omega arith)))
 

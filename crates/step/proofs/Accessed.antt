@@ -5,8 +5,8 @@ use mathlib.Core.List.{List, []}
 use Rattle.object.proofs.Each.{each-same}
 use Rattle.machine.specs.declared.ThreadId.{ThreadId}
 use Rattle.machine.specs.declared.Thread.{Thread}
-use Rattle.machine.specs.Accesses.{Access, pointed, accessesOf}
-use Rattle.cc_lines.specs.Lines.{Line, printed, lineOf, rowOf}
+use Rattle.machine.specs.Accesses.{Access}
+use Rattle.cc_lines.specs.Lines.{Line, printed, lineOf, accessesBy}
 use Rattle.cc_lines.specs.Said.{sharedAccesses, beside}
 use Rattle.cc_lines.proofs.Table.{as-tabled}
 use Rattle.state.specs.declared.State.{State}
@@ -14,16 +14,13 @@ use Rattle.step.specs.Entry.{named, line, accesses}
 use Rattle.step.specs.Numbers.{number}
 use Rattle.step.proofs.Numbers.{number-of, each-line}
 
--- a line's accesses, and what stands beside its number; a blank has none
+-- what stands beside a line's number; beside that of a blank nothing
 module _ (th : Thread) where
-  abbrev made : Line → List Access
-  made l = accessesOf (rowOf l) (pointed (rowOf l .node) th)
-
   abbrev said : Line → List Access
   said l = beside [] (number l) (sharedAccesses th)
 
-  line-as-tabled : (l : Line) → made l ≡ said l
-  line-as-tabled = each-line (λ l. made l ≡ said l) (refl, each-same made said printed (as-tabled th))
+  line-as-tabled : (l : Line) → accessesBy th l ≡ said l
+  line-as-tabled = each-line (λ l. accessesBy th l ≡ said l) (refl, each-same (accessesBy th) said printed (as-tabled th))
 
 pub entry-as-tabled : (s : State) (t : ThreadId) → line s t ≤ 21 → accesses s t ≡ beside [] (line s t) (sharedAccesses (named s t))
 entry-as-tabled s t h =

@@ -21,9 +21,9 @@ use Rattle.machine.specs.declared.Event.{Event}
 use Rattle.machine.specs.declared.Event.the-variants.{Blank, Swaps, TurnBegins, Applies, Spins}
 use Rattle.machine.specs.declared.Row.{Row}
 use Rattle.machine.specs.declared.Effect.{Effect}
-use Rattle.machine.specs.Accesses.{Access, pointed, accessesOf}
+use Rattle.machine.specs.Accesses.{Access, pointed}
 use Rattle.machine.specs.Events.{sameEvent}
-use Rattle.cc_lines.specs.Lines.{lineOf, lineRun, rowOf, eventIn}
+use Rattle.cc_lines.specs.Lines.{lineOf, lineRun, rowOf, accessesBy, eventIn}
 use Rattle.cc_synch.specs.Effect.{executed}
 use Rattle.copies.specs.Remote.{Referred, referred}
 use Rattle.state.specs.declared.Slot.{Slot}
@@ -131,7 +131,7 @@ module _ (s : State) (t : ThreadId) where
 
   -- the accesses that it makes, in order
   abbrev pub accesses : List Access
-  accesses = accessesOf row target
+  accesses = accessesBy named (lineOf line)
 
   -- and which of them are remote
   abbrev pub references : Referred
