@@ -1,5 +1,5 @@
--- The marked runs of document 01, 'Runs that touch a bound', three of request No. 1 and two of request No. 3: the bytes of each file, and the whole result
--- that they give.
+-- The marked runs of document 01, 'Runs that touch a bound', three of request No. 1, two of No. 3 and one of No. 5: the bytes of each file, and the whole
+-- result that they give.
 use Prim.Native.Nat.{ℕ}
 use mathlib.Core.Bool.{Bool, true, false}
 use mathlib.Core.List.{List, [], _∷_, _++_}
@@ -141,4 +141,7 @@ markedRuns =
     -- request No. 3: the counts of done puts
     ∷ gives (fillsTwo Stack) (counted 8 8 0 0 3) (fillsTwoRecords 8 6 9)
     ∷ gives (fillsTwo Queue) (counted 8 8 0 0 3) (fillsTwoRecords 9 8 6)
+    -- request No. 5: thread 0 swaps, then thread 1, whose Swap ends the other's copy of Tail, then thread 0 again: it has its own node, and fetches Tail and curNode
+    ∷ gives (fileOf Counter 2 1 0 ((Add 5 ∷ Add 9 ∷ []) ∷ (Add 7 ∷ []) ∷ []) (replicate 21 0 ++ replicate 21 1 ++ replicate 21 0)) (counted 3 3 0 0 8)
+    (served ∷ listed 1 0 value 5 1 1 3 hasReturned 21 41 ∷ listed 0 1 value 12 0 2 2 hasReturned 42 62 ∷ [])
     ∷ []

@@ -6,12 +6,13 @@ use mathlib.Core.Path.{_≡_, refl, sym, ap, _∙_}
 use mathlib.Core.Bool.{Bool, true, false, cond, _&&_, _||_, false≢true}
 use mathlib.Core.List.{List, [], _∷_}
 use lib.ListN.{getD, length}
-use lib.Dec.{T, eqb}
+use lib.Dec.{eqb}
 use lib.Seq.{getD-set-same, getD-set-other}
 use borrow.Author.Tests.{eqb-true, eqb-false}
 use Rattle.machine.specs.declared.Field.{Field}
 use Rattle.machine.specs.declared.NodeId.{NodeId}
-use Rattle.machine.specs.Accesses.{Access, read, write, swap, Location, tail, whole, located}
+use Rattle.machine.specs.Accesses.{Access, read, write, swap, Location, tail, whole, sameLocation, located}
+use Rattle.machine.proofs.Locations.{same-exactly}
 use Rattle.copies.specs.Copies.{hasCopy}
 use Rattle.copies.specs.Remote.{place, hasCopyOf, remoteOf, ends, wordAfter, copiesAfter, referred}
 use Rattle.copies.proofs.Valid.{read-holds, read-keeps, write-holds, write-ends}
@@ -23,10 +24,18 @@ place-injective tail (whole m) e = absurd (omega arith)
 place-injective (whole m) tail e = absurd (omega arith)
 place-injective (whole m) (whole m′) e = ap (λ (k : ℕ). whole (record { 0 = k })) (omega arith)
 
--- an access that ends the other threads' copies, and one whose location has a place among the copies
+-- document 01's words: a write or Swap ends the other threads' copies. `ends` tells no other access
 abbrev pub Ends : Access → Type 0
-Ends a = T (ends a)
+Ends (read node field) = ⊥
+Ends (write node field) = Unit
+Ends swap = Unit
 
+ends-told : (a : Access) → ends a ≡ true → Ends a
+ends-told (read node field) e = false≢true e
+ends-told (write node field) e = tt
+ends-told swap e = tt
+
+-- an access whose location has a place among the copies
 abbrev pub Inside : List ℕ → Access → Type 0
 Inside copies a = place (located a) < length copies
 
@@ -71,7 +80,7 @@ module _ (n t : ℕ) (copies : List ℕ) where
       by-thread : (mine ended : Bool) → eqb t u ≡ mine → ends a ≡ ended
           → hasCopyOf (copiesAfter n t a copies) u (located a) ≡ cond (mine || ended) mine (hasCopyOf copies u (located a))
       by-thread true ended e f = rw (sym (eqb-true t u e)) (own-held a inside)
-      by-thread false true e f = others-ended a (rw f tt) u inside exists (other e)
+      by-thread false true e f = others-ended a (ends-told a f) u inside exists (other e)
       by-thread false false e f = left a inside f
         where
           left : (a : Access) → Inside copies a → ends a ≡ false → hasCopyOf (copiesAfter n t a copies) u (located a) ≡ hasCopyOf copies u (located a)
@@ -79,11 +88,11 @@ module _ (n t : ℕ) (copies : List ℕ) where
           left (write node f) inside f′ = absurd (false≢true (sym f′))
           left swap inside f′ = absurd (false≢true (sym f′))
 
-      by-place : (l : Location) (same : Bool) → eqb (place (located a)) (place l) ≡ same
+      by-location : (l : Location) (same : Bool) → sameLocation (located a) l ≡ same
           → hasCopyOf (copiesAfter n t a copies) u l ≡ cond (same && (eqb t u || ends a)) (eqb t u) (hasCopyOf copies u l)
-      by-place l true e = rw (place-injective l (located a) (sym (eqb-true _ _ e))) (by-thread _ _ refl refl)
-      by-place l false e = elsewhere-kept a u l (λ q. eqb-false _ _ e (sym (ap place q)))
+      by-location l true e = rw (sym (same-exactly (located a) l .0 e)) (by-thread _ _ refl refl)
+      by-location l false e = elsewhere-kept a u l (λ q. false≢true (sym e ∙ same-exactly (located a) l .1 (sym q)))
 
       pub copy-after : (l : Location)
-          → hasCopyOf (copiesAfter n t a copies) u l ≡ cond (eqb (place (located a)) (place l) && (eqb t u || ends a)) (eqb t u) (hasCopyOf copies u l)
-      copy-after l = by-place l _ refl
+          → hasCopyOf (copiesAfter n t a copies) u l ≡ cond (sameLocation (located a) l && (eqb t u || ends a)) (eqb t u) (hasCopyOf copies u l)
+      copy-after l = by-location l _ refl

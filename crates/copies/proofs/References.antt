@@ -15,9 +15,9 @@ use Rattle.copies.specs.Remote.{place, remoteOf, wordAfter, copiesAfter,
 use Rattle.copies.proofs.Valid.{none-held}
 
 -- an access is one remote reference at most
-pub price-most : (b : Bool) → cond b 0 1 ≤ 1
-price-most true = omega arith
-price-most false = omega arith
+pub access-most : (b : Bool) → cond b 0 1 ≤ 1
+access-most true = omega arith
+access-most false = omega arith
 
 -- an access past the array is remote
 pub remote-outside : (t : ℕ) (l : List ℕ) (at : ℕ) → length l ≤ at → _≡_ {A = ℕ} 1 (cond (hasCopy (getD l at 0) t) 0 1)
@@ -33,7 +33,7 @@ module _ (n t : ℕ) (l : List ℕ) (at : ℕ) where
       → r ≡ cond (hasCopy (getD l at 0) t) 0 1
       → l′ ≡ set l at (wordAfter n t a (getD l at 0))
       → Made n t l (a ∷ []) r l′
-  one-referred a e q s = (q ∙ rw e (sym (add-zero (remoteOf l t a))), (s ∙ rw e, omega (arith, q, price-most (hasCopy (getD l at 0) t))))
+  one-referred a e q s = (q ∙ rw e (sym (add-zero (remoteOf l t a))), (s ∙ rw e, omega (arith, q, access-most (hasCopy (getD l at 0) t))))
 
 -- two lists of accesses in turn
 module _ (n t : ℕ) where

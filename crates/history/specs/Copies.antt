@@ -5,14 +5,13 @@ use mathlib.Core.Bool.{Bool, true, false, cond, not, _&&_, _||_}
 use mathlib.Core.List.{List, [], _∷_}
 use lib.Dec.{eqb}
 use Rattle.machine.specs.declared.ThreadId.{ThreadId}
-use Rattle.machine.specs.Accesses.{Access, Location, located}
-use Rattle.copies.specs.Remote.{place, hasCopyOf, ends, copiesAfter}
+use Rattle.machine.specs.Accesses.{Access, Location, sameLocation, located}
+use Rattle.copies.specs.Remote.{hasCopyOf, ends, copiesAfter}
 use Rattle.history.specs.Entries.{Entry}
 
--- whether an access of thread u decides if thread t has a copy of a location: by an access of its own it has, by another's write or Swap it has not.
--- Locations are one if their places are (`place-injective` in copies/proofs/Holding.antt)
+-- whether an access of thread u decides if thread t has a copy of a location: by an access of its own it has, by another's write or Swap it has not
 abbrev pub decides : ThreadId → Location → ThreadId → Access → Bool
-decides t l u access = eqb (place (located access)) (place l) && (eqb (u .0) (t .0) || ends access)
+decides t l u access = sameLocation (located access) l && (eqb (u .0) (t .0) || ends access)
 
 -- whether it has one after accesses of thread u, one after the other, if it had one before them or not
 abbrev pub copyAfter : ThreadId → Location → ThreadId → List Access → Bool → Bool

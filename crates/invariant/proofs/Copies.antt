@@ -6,13 +6,14 @@ use mathlib.Core.Bool.{Bool, true, false, cond, _&&_, _||_}
 use mathlib.Core.List.{List, [], _∷_}
 use lib.Dec.{eqb}
 use lib.ListN.{length, length-set}
-use borrow.Author.Tests.{eqb-true, eqb-false}
+use borrow.Author.Tests.{eqb-false}
 use Rattle.object.specs.Each.{Each}
-use Rattle.machine.specs.Accesses.{Access, Location, located}
+use Rattle.machine.specs.Accesses.{Access, Location, sameLocation, located}
+use Rattle.machine.proofs.Locations.{same-exactly}
 use Rattle.machine.specs.Sizes.{mostLocations}
 use Rattle.copies.specs.Remote.{place, hasCopyOf, remoteOf, ends, copiesAfter, referred}
-use Rattle.copies.proofs.Holding.{place-injective, own-held, copy-after}
-use Rattle.copies.proofs.References.{price-most}
+use Rattle.copies.proofs.Holding.{own-held, copy-after}
+use Rattle.copies.proofs.References.{access-most}
 use Rattle.invariant.specs.Remote.{wholeOf, fetch}
 
 -- an access of node m, one of a place among the copies, and one that does not end the copies of node m
@@ -30,7 +31,7 @@ abbrev price : Bool → ℕ
 price b = cond b 0 1
 
 pub fetch-most : (copies : List ℕ) (u m : ℕ) → fetch copies u m ≤ 1
-fetch-most copies u m = price-most (hasCopyOf copies u (wholeOf m))
+fetch-most copies u m = access-most (hasCopyOf copies u (wholeOf m))
 
 -- an access of node m costs what the node does
 at-node : (copies : List ℕ) (u m : ℕ) (a : Access) → Of m a → remoteOf copies u a ≡ fetch copies u m
@@ -48,12 +49,12 @@ module _ (n t : ℕ) (k : t < n) (small : n ≤ 16) where
   kept-one copies len a fits u m exists miss =
       rw (copy-after n t copies k small a (omega arith) u exists (wholeOf m)) (by-tests _ _ _ refl refl refl)
     where
-      by-tests : (same mine ended : Bool) → eqb (place (located a)) (place (wholeOf m)) ≡ same → eqb t u ≡ mine → ends a ≡ ended
+      by-tests : (same mine ended : Bool) → sameLocation (located a) (wholeOf m) ≡ same → eqb t u ≡ mine → ends a ≡ ended
           → price (cond (same && (mine || ended)) mine (hasCopyOf copies u (wholeOf m))) ≤ fetch copies u m
       by-tests false mine ended e f g = omega arith
       by-tests true true ended e f g = omega arith
       by-tests true false false e f g = omega arith
-      by-tests true false true e f g = absurd (miss (λ q. eqb-false t u f (sym q)) g (place-injective (located a) (wholeOf m) (eqb-true _ _ e)))
+      by-tests true false true e f g = absurd (miss (λ q. eqb-false t u f (sym q)) g (same-exactly (located a) (wholeOf m) .0 e))
 
   -- nor after several
   pub kept : (accesses : List Access) (copies : List ℕ) → length copies ≡ mostLocations → Each Fits accesses → (u m : ℕ) → u < n

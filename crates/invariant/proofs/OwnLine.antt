@@ -16,7 +16,7 @@ use Rattle.machine.specs.Fields.{isNull}
 use Rattle.cc_lines.specs.Lines.{Line, L0, L1, L2, L3, L4, L5, L6, L7, L8, L9, L10, L11, L12, L13, L14, L15, L16, L17, L18, L19, L20, L21}
 use Rattle.cc_synch.specs.Effect.{goes}
 use Rattle.copies.specs.Remote.{hasCopyOf, Referred, referred}
-use Rattle.copies.proofs.References.{price-most}
+use Rattle.copies.proofs.References.{access-most}
 use Rattle.step.specs.Numbers.{number, standsAt}
 use Rattle.step.proofs.Numbers.{at-most-one}
 use Rattle.invariant.specs.Stages.{w11, w12, c13, wait, combine, stageOf}
@@ -73,7 +73,7 @@ module _ {n h : ℕ} {v v′ : View} {g : Ledger} {t : ℕ} {request : Request} 
     own-line L2 en s = λ _. omega (arith, s tt, pays en _ (refl, tt))
     own-line L3 en s = λ _. omega (arith, s tt, pays en _ (refl, tt))
     own-line L4 en s = λ _. omega (arith, s tt, pays en _ (refl, tt))
-    own-line L5 en s = λ _. omega (arith, s tt, price-most (hasCopyOf copies t (located swap)), fetch-most (afterLine n v t copies L5 .copies) t (v .tail .0))
+    own-line L5 en s = λ _. omega (arith, s tt, access-most (hasCopyOf copies t (located swap)), fetch-most (afterLine n v t copies L5 .copies) t (v .tail .0))
     own-line L6 en s = λ _. omega (arith, s tt, pays en _ (refl, tt))
     own-line L7 en s = λ _. omega (arith, s tt, pays en _ (refl, tt))
     own-line L8 en s = λ _. omega (arith, s tt)

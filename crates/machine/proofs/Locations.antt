@@ -1,9 +1,32 @@
--- Which accesses go to one location: document 02, No. 5. Assumes nothing.
+-- Which locations are one, and which accesses go to one location: document 02, No. 5. Assumes nothing.
+use Prim.Native.Nat.{ℕ}
 use mathlib.Core.Path.{_≡_, refl, sym, ap, _∙_}
+use mathlib.Core.Bool.{Bool, true, false, false≢true}
 use mathlib.Core.List.{List, [], _∷_}
 use mathlib.Core.Logic.{_↔_}
+use borrow.Author.Tests.{eqb-true, eq-eqb}
 use Rattle.machine.specs.declared.NodeId.{NodeId}
-use Rattle.machine.specs.Accesses.{Access, read, write, swap, nodeOf, Location, tail, whole, located}
+use Rattle.machine.specs.Accesses.{Access, read, write, swap, Location, tail, whole, sameLocation, located}
+
+-- the test for one location tells exactly that
+same-one : (l l′ : Location) → sameLocation l l′ ≡ true → l ≡ l′
+same-one tail tail e = refl
+same-one tail (whole m) e = absurd (false≢true e)
+same-one (whole m) tail e = absurd (false≢true e)
+same-one (whole m) (whole m′) e = ap (λ (k : ℕ). whole (record { 0 = k })) (eqb-true (m .0) (m′ .0) e)
+
+one-same : (l : Location) → sameLocation l l ≡ true
+one-same tail = refl
+one-same (whole m) = eq-eqb (m .0) (m .0) refl
+
+pub same-exactly : (l l′ : Location) → (sameLocation l l′ ≡ true) ↔ (l ≡ l′)
+same-exactly l l′ = (same-one l l′, λ e. rw (sym e) (one-same l))
+
+-- the node of an access, of a Swap none
+abbrev pub nodeOf : Access → List NodeId
+nodeOf (read node field) = node ∷ []
+nodeOf (write node field) = node ∷ []
+nodeOf swap = []
 
 -- the node of a location, of Tail none; and the location of a node, or of none
 abbrev nodeAt : Location → List NodeId

@@ -1,6 +1,8 @@
 -- The shared accesses of a line, and the locations that they go to.
 -- An access is of one field; caches fetch nodes, so its location is the whole node: document 02, No. 5.
+use mathlib.Core.Bool.{Bool, true, false}
 use mathlib.Core.List.{List, [], _∷_, _++_}
+use lib.Dec.{eqb}
 use Rattle.machine.specs.declared.NodeId.{NodeId}
 use Rattle.machine.specs.declared.Thread.{Thread}
 use Rattle.machine.specs.declared.Pointer.{Pointer}
@@ -22,16 +24,17 @@ pub data Access : Type 0 where
   write : NodeId → Field → Access
   swap : Access
 
--- the node of an access, of a Swap none
-abbrev pub nodeOf : Access → List NodeId
-nodeOf (read node field) = node ∷ []
-nodeOf (write node field) = node ∷ []
-nodeOf swap = []
-
 -- a location is Tail or a whole node
 pub data Location : Type 0 where
   tail : Location
   whole : NodeId → Location
+
+-- whether two locations are one
+abbrev pub sameLocation : Location → Location → Bool
+sameLocation tail tail = true
+sameLocation tail (whole node) = false
+sameLocation (whole node) tail = false
+sameLocation (whole node) (whole other) = eqb (node .0) (other .0)
 
 -- the location of an access, whatever its field
 abbrev pub located : Access → Location

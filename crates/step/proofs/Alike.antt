@@ -27,7 +27,7 @@ use Rattle.machine.specs.declared.Thread.{Thread}
 use Rattle.machine.specs.declared.SharedAccess.{SharedAccess}
 use Rattle.machine.specs.declared.SharedAccess.the-variants.{NoAccess, Read, Write, Swap}
 use Rattle.machine.specs.declared.Row.{Row}
-use Rattle.machine.specs.Accesses.{Access, located, accessTo, accessesOf}
+use Rattle.machine.specs.Accesses.{Access, sameLocation, located, accessTo, accessesOf}
 use Rattle.machine.specs.Sizes.{locationsOf, mostLocations}
 use Rattle.cc_lines.specs.Lines.{lineOf, lineRun}
 use Rattle.cc_synch.specs.Effect.{executed}
@@ -79,7 +79,7 @@ module _ (n t : ℕ) (below : t < n) (few : n ≤ 16) where
     same-after : (a : Access) → Near n a → SameCopies n (copiesAfter n t a c) (copiesAfter n t a c′)
     same-after a q u h l k =
         copy-after n t c below few a (omega arith) u h l
-        ∙ ap (λ (b : Bool). cond (eqb (place (located a)) (place l) && (eqb t u || ends a)) (eqb t u) b) (same u h l k)
+        ∙ ap (λ (b : Bool). cond (sameLocation (located a) l && (eqb t u || ends a)) (eqb t u) b) (same u h l k)
         ∙ sym (copy-after n t c′ below few a (omega arith) u h l)
 
   -- and after a list of them, of which as many are remote
