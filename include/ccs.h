@@ -36,9 +36,10 @@
  * ends of the call's bar on a time line of entries. Of two calls whose bars do not overlap, the earlier one stands earlier in Swap order: if one's
  * bytes 20 to 23 are below another's bytes 16 to 19, its record comes before the other's.
  *
- * A location is Tail or a whole node. An access to one is a remote reference if its thread has no valid copy of it; then the thread has one, and a
- * write or Swap ends every other thread's copy of it. At the start there are no copies. A returned call has at most 6 remote references if another
- * thread served it, and at most k + 5 if it had the turn itself and served k.
+ * Threads wait in line at nodes, and Tail points to the last of them (README.md, 'The algorithm and its words'). A location is Tail or a whole node.
+ * An access to one is a remote reference if its thread has no valid copy of it; then the thread has one, and a write or Swap ends every other
+ * thread's copy of it. At the start there are no copies. A returned call has at most 6 remote references if another thread served it, and at most
+ * k + 5 if it had the turn itself and served k.
  */
 #ifndef CCS_H
 #define CCS_H

@@ -47,7 +47,7 @@ one-access m (Read field) = omega arith
 one-access m (Write field) = omega arith
 one-access m Swap = omega arith
 
--- an entry makes at most two remote references
+-- an entry makes at most two accesses, so at most two remote references
 entry-few : (s : State) (t : ThreadId) → Few (entryOf s t)
 entry-few s t =
     let one = one-access (target s t) (row s t .first) in

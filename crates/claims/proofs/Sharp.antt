@@ -17,31 +17,31 @@ use Rattle.bench_file.proofs.RoundTrip.{accepted-in-range}
 use Rattle.history.specs.Terms.{Call, returned, servings, shownOf}
 use Rattle.claims.specs.Entries.{entriesFrom, historyOf}
 use Rattle.claims.specs.Claims.{mostByAnother, mostCombining, ReturnedCall}
-use Rattle.claims.specs.Sharp.{Became, becameBy, ByAnother, Combining, Bounds, Sharp, byAnotherSharp, combiningSharp, combiningUpTo, sharpRuns, run, told}
+use Rattle.claims.specs.Sharp.{Became, becameBy, ByAnother, Combining, Bounds, Sharp, byAnotherSharp, combiningSharp, combiningUpTo, sharpRuns, becomes, asSaid}
 use Rattle.claims.proofs.Theorem.{claim-whole}
 
 -- each file is judged from its bytes and run
-pub sharp-runs : map run sharpRuns ≡ map told sharpRuns
+pub sharp-runs : map becomes sharpRuns ≡ map asSaid sharpRuns
 unfolding judgeOf fileReader headReader startReader limitsReader rowReader requestReader scheduleReader ruledByte byte several field littleEndian end lowFirst eachBytes bytesOf entriesFrom sharpRuns
 sharp-runs = refl
 
 abbrev Reached : Sharp → Type 0
-Reached r = run r ≡ told r
+Reached r = becomes r ≡ asSaid r
 
 by-another-reached : Reached byAnotherSharp
 unfolding sharpRuns
-by-another-reached = each-same run told sharpRuns sharp-runs .0
+by-another-reached = each-same becomes asSaid sharpRuns sharp-runs .0
 
 combining-reached : (others : ℕ) → others < 15 → Reached (combiningSharp others)
 unfolding sharpRuns
-combining-reached others few = among 15 (each-same run told sharpRuns sharp-runs .1) few
+combining-reached others few = among 15 (each-same becomes asSaid sharpRuns sharp-runs .1) few
   where
     among : (most : ℕ) → Each Reached (combiningUpTo most) → others < most → Reached (combiningSharp others)
     among zero each h = absurd (omega arith)
     among (suc most) each h = by-equal others most (λ e. rw e (each .0)) (λ d. among most (each .1) (omega arith))
 
 -- no bound is below what a call has cost
-module _ (So : Became → Type 0) (r : Sharp) (reached : Reached r) (over : r .said .returned ≡ true) (so : So (r .said)) (b : ℕ) (bounds : Bounds So b) where
+module _ (Premise : Became → Type 0) (r : Sharp) (reached : Reached r) (over : r .said .returned ≡ true) (so : Premise (r .said)) (b : ℕ) (bounds : Bounds Premise b) where
   each-byte : Each Byte (r .file)
   each-byte = each-map (λ x e. ltb-true x 256 e) (r .file) (every-each (λ x. ltb x 256) (r .file) (ap (λ (p : Bool × Became). p .0) reached))
 

@@ -124,7 +124,8 @@ pub record Holds (f : Fields) (history : List Entry) (s a : ℕ) : Type 0 where
   pub at-most-h : (turn : ℕ) → servedIn turn history ≤ f .head .h
   pub turns-fit : howMany TurnBegins history < noTurn
   pub turn-fits : (c : Call) → shownOf c (servings history) .turn ≤ noTurn
-  -- 5: the bounds; bytes 8 to 11 are a call's remote references, which have 32 bits; and each access is remote as document 01 says, with the locations of request No. 5
+  -- 5: the bounds; bytes 8 to 11 are a call's remote references, which have 32 bits; and each access is remote as document 01 says, with the locations of
+  -- request No. 5
   pub settled : (c : Call) → returned c history ≡ true → ReturnedCall history c (shownOf c (servings history))
   pub cost : (i : ℕ) → i < s → take 4 (drop 8 (getD (recordsOf history) i [])) ≡ lowFirst 4 (costOf (swapAt history i) history)
   pub cost-fits : (c : Call) → costOf c history < 2 ^ 32

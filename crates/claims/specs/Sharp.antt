@@ -49,10 +49,10 @@ pub record Combining (k : ℕ) (w : Became) : Type 0 where
   pub combined : w .combined ≡ true
   pub in-turn : w .in-turn ≡ k
 
--- b bounds the calls that became so: in no accepted file's run has one of them cost more
+-- b bounds the calls with a premise: in no accepted file's run has one of them cost more
 abbrev pub Bounds : (Became → Type 0) → ℕ → Type 0
-Bounds So b =
-    (bytes : List ℕ) (f : Fields) → Each Byte bytes → judgeOf bytes ≡ accepted f → (c : Call) → So (becameOf (historyOf f) c) → costOf c (historyOf f) ≤ b
+Bounds Premise b =
+    (bytes : List ℕ) (f : Fields) → Each Byte bytes → judgeOf bytes ≡ accepted f → (c : Call) → Premise (becameOf (historyOf f) c) → costOf c (historyOf f) ≤ b
 
 -- a file, a call of its run, and what it is said to become
 pub record Sharp : Type 0 where
@@ -99,8 +99,8 @@ unfoldable pub sharpRuns : List Sharp
 sharpRuns = byAnotherSharp ∷ combiningUpTo 15
 
 -- whether a file's bytes are bytes, and what its call becomes; and what is said of it
-abbrev pub run : Sharp → Bool × Became
-run r = (every (λ b. ltb b 256) (r .file), becameBy (judgeOf (r .file)) (r .call))
+abbrev pub becomes : Sharp → Bool × Became
+becomes r = (every (λ b. ltb b 256) (r .file), becameBy (judgeOf (r .file)) (r .call))
 
-abbrev pub told : Sharp → Bool × Became
-told r = (true, r .said)
+abbrev pub asSaid : Sharp → Bool × Became
+asSaid r = (true, r .said)

@@ -46,13 +46,13 @@ limit l21 g i served = 5 + served
 limit dummy g i served = 0
 
 -- the stages with an open call
-abbrev pub calling : Stage → Bool
-calling (out o) = outRow o .begun
-calling (wait w) = true
-calling (combine c) = true
-calling l19 = true
-calling l21 = true
-calling dummy = false
+abbrev pub callOpen : Stage → Bool
+callOpen (out o) = outRow o .begun
+callOpen (wait w) = true
+callOpen (combine c) = true
+callOpen l19 = true
+callOpen l21 = true
+callOpen dummy = false
 
 -- and those in which tmpNode's next is known to be written (14 to 18)
 abbrev pub linkedTmp : Stage → Bool
@@ -70,7 +70,7 @@ owed s copies u th = fetch copies u (holding s th) + cond (linkedTmp s) (fetch c
 -- thread u at a stage: what its call has cost, with what it owes. An access of a node by the thread never raises this sum, since a remote one pays 1 and gets the
 -- copy; another's write raises it by 1 at most, and exactly these writes raise `written`
 abbrev pub Spent : Stage → Ledger → List ℕ → ℕ → Thread → ℕ → Type 0
-Spent s g copies u th cost = T (calling s) → cost + owed s copies u th ≤ limit s g (g .at u) (th .served)
+Spent s g copies u th cost = T (callOpen s) → cost + owed s copies u th ≤ limit s g (g .at u) (th .served)
 
 -- cost u counts the remote references of thread u's open call
 pub record Remote (n : ℕ) (v : View) (g : Ledger) (copies : List ℕ) (cost : ℕ → ℕ) : Type 0 where

@@ -30,7 +30,7 @@ limit, line 18, no copies: q l1=18 W165=168 R255,T255,B255,L255,M255,U254,
 limit, line 20, no copies: q l1=20 W165=168 R255,T255,B255,L255,M255,U254,
 limit, line 21, no copies: q l1=21 W165=168 R255,T255,B255,L255,M255,U254,",
     );
-    // Thread 1 has all copies, that of line 16's node, or of other nodes; the other causes; counts as far below the limit as the line adds.
+    // Thread 1 has all copies, some with line 16's node among them, or some without it; the other causes; counts as far below the limit as the line adds.
     table(
         1,
         b"limit, line 3, copies: q l1=3 W165=170 R255,T255,B255,L255,M255,U254,

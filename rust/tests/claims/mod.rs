@@ -364,26 +364,8 @@ fn check_entry(file: &Fields, before: &After, entry: u8, after: &After) -> Resul
         "a call begins no turn, spins or serves before Swap",
     )?;
     if swaps {
-        let record = &after.records[after.records.len() - 1];
-        claim(
-            record[0] == entry && own.is_none(),
-            "a Swap is one of the entry's thread, idle before",
-        )?;
-        claim(record[2] == 255, "a record begins unserved")?;
-        claim(!returned(record), "a record begins open")?;
-        let own_entries = after.schedule[began(record)..]
-            .iter()
-            .filter(|&&other| other == entry);
-        claim(
-            own_entries.count() == 5,
-            "a call's Swap is its fifth entry, and its line 1 the first",
-        )?;
-        let first = record[1] == 0;
-        let again = before.records.last().is_some_and(|last| last[0] == entry);
-        claim(
-            number(record, 8) == u32::from(first) + u32::from(!again),
-            "a call fetches its node if it is its thread's first, and Tail unless its thread swapped last",
-        )?;
+        claim(own.is_none(), "a Swap is one of a thread without a record")?;
+        check_swap(before, entry, after)?;
     }
     if begins {
         claim(
@@ -403,22 +385,48 @@ fn check_entry(file: &Fields, before: &After, entry: u8, after: &After) -> Resul
         )?;
     }
     if applies {
-        let record = &after.records[a];
-        claim(record[3] == entry, "the server is the entry's thread")?;
-        claim(
-            turn(record) + 1 == before.counts.turns,
-            "an entry serves in the last turn begun",
-        )?;
-        let first = after
-            .records
-            .iter()
-            .position(|other| turn(other) == turn(record));
-        claim(
-            own == first,
-            "the server's own call, still open, is the first of its turn",
-        )?;
+        check_serving(before, entry, after)?;
     }
     Ok(())
+}
+
+/// A Swap's record is of the entry's thread, unserved and open, with what its lines 2 to 5 fetched.
+fn check_swap(before: &After, entry: u8, after: &After) -> Result<(), String> {
+    let record = &after.records[after.records.len() - 1];
+    claim(record[0] == entry, "a Swap is one of the entry's thread")?;
+    claim(record[2] == 255, "a record begins unserved")?;
+    claim(!returned(record), "a record begins open")?;
+    let own_entries = after.schedule[began(record)..]
+        .iter()
+        .filter(|&&other| other == entry);
+    claim(
+        own_entries.count() == 5,
+        "a call's Swap is its fifth entry, and its line 1 the first",
+    )?;
+    let first = record[1] == 0;
+    let again = before.records.last().is_some_and(|last| last[0] == entry);
+    claim(
+        number(record, 8) == u32::from(first) + u32::from(!again),
+        "a call fetches its node if it is its thread's first, and Tail unless its thread swapped last",
+    )
+}
+
+/// The first unserved call is served by the entry's thread, in the turn that its own call began.
+fn check_serving(before: &After, entry: u8, after: &After) -> Result<(), String> {
+    let record = &after.records[applied(before.records)];
+    claim(record[3] == entry, "the server is the entry's thread")?;
+    claim(
+        turn(record) + 1 == before.counts.turns,
+        "an entry serves in the last turn begun",
+    )?;
+    let first = after
+        .records
+        .iter()
+        .position(|other| turn(other) == turn(record));
+    claim(
+        open_call(before.records, entry) == first,
+        "the server's own call, still open, is the first of its turn",
+    )
 }
 
 fn claim(holds: bool, text: &str) -> Result<(), String> {
