@@ -3,9 +3,10 @@
 use Prim.Native.Nat.{ℕ, _≤_, _<_}
 use native.Mathlib.Omega.{arith}
 use mathlib.Core.Path.{_≡_, sym, ap, subst, _∙_}
-use lib.ListN.{replicate}
+use mathlib.Core.Bool.{false}
 use mathlib.Core.List.{List, [], _∷_}
 use Rattle.object.specs.Each.{Each}
+use Rattle.bench_file.specs.Layout.{Fields}
 use Rattle.machine.specs.declared.ThreadId.{ThreadId}
 use Rattle.machine.specs.Accesses.{Access, Location, located}
 use Rattle.machine.specs.Sizes.{mostLocations}
@@ -22,7 +23,7 @@ use Rattle.step.proofs.Soundness.{Sound}
 use Rattle.history.specs.Entries.{Entry, threadId, remoteIn}
 use Rattle.history.specs.Copies.{copyAfter, validCopy, remoteSaid}
 use Rattle.history.proofs.Copies.{said-same, all-after, remote-marks}
-use Rattle.claims.specs.Entries.{entryOf}
+use Rattle.claims.specs.Entries.{entryOf, startOf}
 use Rattle.claims.proofs.Counted.{remote-ones}
 use Rattle.claims.proofs.Filled.{padded}
 
@@ -30,9 +31,12 @@ use Rattle.claims.proofs.Filled.{padded}
 pub record CopiesSaid (n : ℕ) (copies : List ℕ) (past : List Entry) : Type 0 where
   pub said : (u : ℕ) (l : Location) → u < n → hasCopyOf copies u l ≡ validCopy (threadId u) l past
 
--- a fresh machine has no copies
-pub copies-fresh : (n : ℕ) → CopiesSaid n (replicate mostLocations 0) []
-copies-fresh n = record { said = λ u l h. ap (λ (w : ℕ). hasCopy w u) (padded 0 mostLocations (place l)) ∙ none-held u }
+-- at the start no thread has a valid copy of any location: document 01's words
+pub none-at-start : (f : Fields) (u : ℕ) (l : Location) → hasCopyOf (startOf f .copies) u l ≡ false
+none-at-start f u l = ap (λ (w : ℕ). hasCopy w u) (padded 0 mostLocations (place l)) ∙ none-held u
+
+pub copies-fresh : (f : Fields) → CopiesSaid (f .head .n) (startOf f .copies) []
+copies-fresh f = record { said = λ u l h. none-at-start f u l }
 
 -- a step by the copies that its state has, of any sound state: its remote references are those of its accesses, one after the other, and so are the copies
 -- that it leaves each thread

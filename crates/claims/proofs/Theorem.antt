@@ -53,7 +53,7 @@ module _ (f : Fields) (fits : InRange f) where
         turns = turns-fresh n (f .head .h) (seenOf v) (positionsOf (freshLedger n)) idle;
         calls = calls-fresh Bounded n (seenOf v) (positionsOf (freshLedger n)) (λ u. 0) idle;
         times = times-fresh n (seenOf v) (positionsOf (freshLedger n)) none refl;
-        copies = copies-fresh n;
+        copies = copies-fresh f;
         said = tt;
         rows = λ u b. ap (λ (th : Thread). th .count) (thread-start f fits u b);
         answered = refl;

@@ -1,4 +1,4 @@
--- The marked runs of document 01, 'Runs that touch a bound', three of request No. 1, two of No. 3 and one of No. 5: the bytes of each file, and the whole
+-- The marked runs of document 01, 'Runs that touch a bound', three of request No. 1, two of No. 3 and two of No. 5: the bytes of each file, and the whole
 -- result that they give.
 use Prim.Native.Nat.{ℕ}
 use mathlib.Core.Bool.{Bool, true, false}
@@ -111,6 +111,13 @@ putAndTake h zeros ones =
 abbrev pub fiveAndSeven : List ℕ → List ℕ
 fiveAndSeven schedule = fileOf Counter 2 1 0 ((Add 5 ∷ []) ∷ (Add 7 ∷ []) ∷ []) schedule
 
+-- counter, n = 16, h = 2; thread 3 adds 4 once, threads 14 and 15 add 1 and 2, three times each
+abbrev pub lastThreads : List ℕ → List ℕ
+lastThreads schedule =
+    fileOf Counter 16 2 0
+    (replicate 3 [] ++ ((Add 4 ∷ []) ∷ []) ++ replicate 10 [] ++ (replicate 3 (Add 1) ∷ replicate 3 (Add 2) ∷ []))
+    schedule
+
 -- in the order of document 01; the values of the third add and of the two puts and the stack's capacity are free there
 unfoldable pub markedRuns : List Marked
 markedRuns =
@@ -141,7 +148,34 @@ markedRuns =
     -- request No. 3: the counts of done puts
     ∷ gives (fillsTwo Stack) (counted 8 8 0 0 3) (fillsTwoRecords 8 6 9)
     ∷ gives (fillsTwo Queue) (counted 8 8 0 0 3) (fillsTwoRecords 9 8 6)
-    -- request No. 5: thread 0 swaps, then thread 1, whose Swap ends the other's copy of Tail, then thread 0 again: it has its own node, and fetches Tail and curNode
+    -- request No. 5: thread 0 swaps, then thread 1, whose Swap ends the other's copy of Tail, then thread 0 again: it has its own node, and fetches Tail and
+    -- curNode
     ∷ gives (fileOf Counter 2 1 0 ((Add 5 ∷ Add 9 ∷ []) ∷ (Add 7 ∷ []) ∷ []) (replicate 21 0 ++ replicate 21 1 ++ replicate 21 0)) (counted 3 3 0 0 8)
     (served ∷ listed 1 0 value 5 1 1 3 hasReturned 21 41 ∷ listed 0 1 value 12 0 2 2 hasReturned 42 62 ∷ [])
+    -- the last two of 16 threads, at nodes 15, 16 and 0: a line 7 is remote, after another's line 20, and so are two of three spins, after lines 16 and 17; thread 3
+    -- stops before its Swap
+    ∷ gives
+    (lastThreads
+    (replicate 18 14
+    ++ replicate 6 15
+    ++ replicate 2 14
+    ++ replicate 15 15
+    ++ replicate 22 14
+    ++ replicate 29 15
+    ++ replicate 9 14
+    ++ replicate 14 15
+    ++ replicate 1 14
+    ++ replicate 1 15
+    ++ replicate 1 14
+    ++ replicate 1 15
+    ++ replicate 3 14
+    ++ replicate 4 3))
+    (counted 6 5 0 3 19)
+    (listed 14 0 value 0 14 0 4 hasReturned 0 41
+    ∷ listed 15 0 value 1 15 1 4 hasReturned 18 40
+    ∷ listed 14 1 value 3 14 2 2 hasReturned 42 62
+    ∷ listed 15 1 value 4 15 3 2 hasReturned 63 83
+    ∷ listed 15 2 value 6 15 4 1 stillOpen 84 4_294_967_295
+    ∷ listed 14 2 value 8 15 4 5 hasReturned 92 121
+    ∷ [])
     ∷ []

@@ -61,8 +61,9 @@ module _ (n t : ℕ) (copies : List ℕ) where
     own-held (write node f) h = here (write node f) t h ∙ write-holds n _ t k m
     own-held swap h = here swap t h ∙ write-holds n _ t k m
 
-    -- a second access of the location finds the copy that the first made
-    pub second-held : (a b : Access) → Inside copies a → located b ≡ located a → referred n t copies (a ∷ b ∷ []) .remote ≡ remoteOf copies t a
+    -- two accesses of one location are remote once, if the thread has no copy, and else not: the second finds the copy that the first made
+    pub second-held : (a b : Access) → Inside copies a → located b ≡ located a
+        → referred n t copies (a ∷ b ∷ []) .remote ≡ cond (hasCopyOf copies t (located a)) 0 1
     second-held a b h e = rw (e, own-held a h) (add-zero (remoteOf copies t a))
 
     -- a write or Swap ends the copy of each other thread of the n
