@@ -152,8 +152,8 @@ markedRuns =
     -- curNode
     ∷ gives (fileOf Counter 2 1 0 ((Add 5 ∷ Add 9 ∷ []) ∷ (Add 7 ∷ []) ∷ []) (replicate 21 0 ++ replicate 21 1 ++ replicate 21 0)) (counted 3 3 0 0 8)
     (served ∷ listed 1 0 value 5 1 1 3 hasReturned 21 41 ∷ listed 0 1 value 12 0 2 2 hasReturned 42 62 ∷ [])
-    -- the last two of 16 threads, at nodes 15, 16 and 0: a line 7 is remote, after another's line 20, and so are two of three spins, after lines 16 and 17; thread 3
-    -- stops before its Swap
+    -- the last two of 16 threads, at nodes 15, 16 and 0: a line 7 is remote, after another's line 20, and so are two of three spins, after lines 16 and 17;
+    -- thread 3 stops before its Swap
     ∷ gives
     (lastThreads
     (replicate 18 14

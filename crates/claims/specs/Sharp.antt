@@ -49,7 +49,7 @@ pub record Combining (k : ℕ) (w : Became) : Type 0 where
   pub combined : w .combined ≡ true
   pub in-turn : w .in-turn ≡ k
 
--- b bounds the calls with a premise: in no accepted file's run has one of them cost more
+-- b bounds the calls that meet a premise: in no accepted file's run has one of them cost more
 abbrev pub Bounds : (Became → Type 0) → ℕ → Type 0
 Bounds Premise b =
     (bytes : List ℕ) (f : Fields) → Each Byte bytes → judgeOf bytes ≡ accepted f → (c : Call) → Premise (becameOf (historyOf f) c) → costOf c (historyOf f) ≤ b

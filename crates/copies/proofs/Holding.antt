@@ -24,12 +24,13 @@ place-injective tail (whole m) e = absurd (omega arith)
 place-injective (whole m) tail e = absurd (omega arith)
 place-injective (whole m) (whole m′) e = ap (λ (k : ℕ). whole (record { 0 = k })) (omega arith)
 
--- document 01's words: a write or Swap ends the other threads' copies. `ends` tells no other access
+-- the accesses that end the other threads' copies, in document 01's words: a write or Swap
 abbrev pub Ends : Access → Type 0
 Ends (read node field) = ⊥
 Ends (write node field) = Unit
 Ends swap = Unit
 
+-- `ends` is true of no other
 ends-told : (a : Access) → ends a ≡ true → Ends a
 ends-told (read node field) e = false≢true e
 ends-told (write node field) e = tt
