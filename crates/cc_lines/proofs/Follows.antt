@@ -10,9 +10,9 @@ use Rattle.machine.specs.declared.Event.the-variants.{Spins, Other}
 use Rattle.machine.specs.declared.Node.{Node}
 use Rattle.machine.specs.Fields.{isNull}
 use Rattle.machine.specs.Events.{sameEvent}
+use Rattle.machine.specs.Lines.{upFrom, beside}
 use Rattle.cc_lines.specs.Lines.{printed, lineOf, rowOf, following, eventIn}
-use Rattle.cc_lines.specs.Said.{saidFollowing, beside}
-use Rattle.cc_lines.proofs.Table.{upFrom}
+use Rattle.cc_lines.specs.Said.{saidFollowing}
 
 -- line 9 follows itself where it spins
 nine-follows : (waits : Bool) → sameEvent (cond waits Spins Other) Spins ≡ eqb (cond waits 9 10) 9

@@ -12,18 +12,14 @@ use Rattle.machine.specs.declared.Field.the-variants.{Req, Ret, Wait}
 use Rattle.machine.specs.declared.Event.the-variants.{Swaps, Applies, Returns, Spins, Other}
 use Rattle.machine.specs.declared.Row.{Row}
 use Rattle.machine.specs.Events.{sameEvent}
+use Rattle.machine.specs.Lines.{upFrom, beside}
 use Rattle.machine.proofs.Rows.{readsField, writesField, swapsTail}
 use Rattle.cc_lines.specs.Lines.{Line, L0, printed, lineOf, printedLine, rowOf, accessesBy}
-use Rattle.cc_lines.specs.Said.{sharedAccesses, saidEvents, beside}
+use Rattle.cc_lines.specs.Said.{sharedAccesses, saidEvents}
 
 -- place k of the table holds printed line k + 1
 pub printed-at : (k : ℕ) → getD (map printedLine printed) k (printedLine L0) ≡ printedLine (lineOf (k + 1))
 printed-at k = simp unary-clauses (List·getD-map printedLine printed k L0)
-
--- k and the numbers that follow, n in all
-abbrev pub upFrom : ℕ → ℕ → List ℕ
-upFrom k zero = []
-upFrom k (suc n) = k ∷ upFrom (suc k) n
 
 -- lines 1 to 21 make the accesses that document 01's table has beside their numbers, and no others
 pub as-tabled : (th : Thread) → map (accessesBy th) printed ≡ map (λ k. beside [] k (sharedAccesses th)) (upFrom 1 21)

@@ -3,12 +3,7 @@ use Prim.Native.Nat.{ℕ}
 use mathlib.Core.List.{List, [], _∷_}
 use mathlib.Core.Bool.{cond, not, _&&_}
 use lib.ListN.{getD}
-use lib.Dec.{eqb, ltb}
-use Rattle.machine.specs.declared.NodeId.{NodeId}
-use Rattle.machine.specs.declared.Announced.{Announced}
-use Rattle.machine.specs.declared.Announced.the-variants.{NoRequest}
-use Rattle.machine.specs.declared.RetVal.{RetVal}
-use Rattle.machine.specs.declared.RetVal.the-variants.{NoAnswer}
+use lib.Dec.{ltb}
 use Rattle.machine.specs.declared.Node.{Node}
 use Rattle.machine.specs.declared.Thread.{Thread}
 use Rattle.machine.specs.declared.Pointer.the-variants.{Own, Cur, Tmp}
@@ -18,8 +13,7 @@ use Rattle.machine.specs.declared.Event.{Event}
 use Rattle.machine.specs.declared.Event.the-variants.{Blank, CallBegins, Swaps, TurnBegins, Applies, TurnEnds, Returns, Spins, Other}
 use Rattle.machine.specs.declared.Row.{Row}
 use Rattle.machine.specs.Accesses.{Access, pointed, accessesOf}
-use Rattle.machine.specs.Fields.{null, isNull}
-use Rattle.machine.specs.Events.{sameEvent}
+use Rattle.machine.specs.Fields.{isNull}
 use Rattle.cc_lines.specs.declared.PrintedLine.{PrintedLine}
 use Rattle.cc_lines.specs.declared.PrintedLine.the-variants.{Local, One, Two}
 
@@ -55,10 +49,6 @@ printed = L1 ∷ L2 ∷ L3 ∷ L4 ∷ L5 ∷ L6 ∷ L7 ∷ L8 ∷ L9 ∷ L10 ∷
 -- the line of a number; a blank has the number 0, and past 21 there is no line either
 abbrev pub lineOf : ℕ → Line
 lineOf k = getD (L0 ∷ printed) k L0
-
--- the number of the line that a thread's entry runs: an idle thread with a request left runs line 1 of a new call, one without gives a blank
-abbrev pub lineRun : Thread → ℕ
-lineRun th = cond (eqb (th .line) 0) (cond (ltb (th .begun) (th .count)) 1 0) (th .line)
 
 -- the table: what an entry of a line is and, where it has shared accesses, the node that it points to and these in order. Line 16 is two accesses. `Spins` is
 -- said of a line that may: an entry of it is a spin where it stays
@@ -137,15 +127,3 @@ eventIn TurnEnds x = TurnEnds
 eventIn Returns x = Returns
 eventIn Spins x = cond (x .wait) Spins Other
 eventIn Other x = Other
-
--- the node that an entry tells, from Tail as it finds it and the node of its row: the Swap of CC-Synch assigns to its call the node that it gives, Tail's;
--- an entry that applies takes the request of the row's node; any other tells none
-abbrev pub nodeTold : Event → NodeId → NodeId → NodeId
-nodeTold event tail node = cond (sameEvent event Swaps) tail (cond (sameEvent event Applies) node null)
-
--- the req that an entry of such an event applies and the ret that it returns, of the node of its row; any other tells none
-abbrev pub reqTold : Event → Node → Announced
-reqTold event x = cond (sameEvent event Applies) (x .req) NoRequest
-
-abbrev pub retTold : Event → Node → RetVal
-retTold event x = cond (sameEvent event Returns) (x .ret) NoAnswer

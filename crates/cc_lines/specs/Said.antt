@@ -2,7 +2,7 @@
 use Prim.Native.Nat.{ℕ}
 use mathlib.Core.List.{List, [], _∷_}
 use mathlib.Core.Bool.{cond, not, _&&_}
-use lib.Dec.{eqb, ltb}
+use lib.Dec.{ltb}
 use Rattle.machine.specs.declared.Node.{Node}
 use Rattle.machine.specs.declared.Thread.{Thread}
 use Rattle.machine.specs.declared.NodeId.{NodeId}
@@ -56,8 +56,3 @@ module _ (x : Node) (served h : ℕ) where
       ∷ (13, cond (not (isNull (x .next)) && ltb served h) 14 20)
       ∷ (19, 13)
       ∷ []
-
--- what stands beside a line's number in such a table, or `none`
-abbrev pub beside : {A : Type 0} → A → ℕ → List (ℕ × A) → A
-beside none k [] = none
-beside none k (row ∷ rows) = cond (eqb k (row .0)) (row .1) (beside none k rows)

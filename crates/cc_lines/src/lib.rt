@@ -1,9 +1,9 @@
-// The 21 printed lines of CC-Synch, Algorithm 1 of source 004: the table of their accesses, the line that follows each, and which of them an entry runs.
+// The 21 printed lines of CC-Synch, Algorithm 1 of source 004: the table of their accesses and the line that follows each.
 ghost use Prim.Native.Nat.{_+_, _<_};
 ghost use mathlib.Core.Path.{_≡_};
 ghost use mathlib.Core.Bool.{cond};
 ghost use mathlib.Core.List.{_∷_, map};
-ghost use Rattle.cc_lines.specs.Lines.{L0, printed, lineOf, lineRun, printedLine, rowFrom, rowOf, following, eventIn};
+ghost use Rattle.cc_lines.specs.Lines.{L0, printed, lineOf, printedLine, rowFrom, rowOf, following, eventIn};
 use PrintedLine::*;
 use machine::Event;
 use machine::Event::*;
@@ -14,7 +14,6 @@ use machine::Pointer::*;
 use machine::Row;
 use machine::SharedAccess;
 use machine::SharedAccess::*;
-use machine::Thread;
 
 // A printed line: what an entry of it is and, where it has shared accesses, the node that it points to and these in order.
 enum PrintedLine {
@@ -79,19 +78,6 @@ pub fn following(line: u8, node: Node, served: u8, h: u8) -> u8
         21 => 0, // return
         _ => 0, // no line, which `cc_synch::run_line` refuses
     }
-}
-
-// The line that the thread's entry runs, 0 for a blank.
-pub fn line_run(thread: Thread) -> u8
-    ensures { λ r. ⌜ r ≡ lineRun thread ⌝ }
-{
-    if thread.line == 0 {
-        if thread.begun < thread.count {
-            return 1;
-        }
-        return 0;
-    }
-    thread.line
 }
 
 // The printed line at a place of the table.

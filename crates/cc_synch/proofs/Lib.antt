@@ -1,3 +1,4 @@
 pub mod NextLine
+pub mod Others
 pub mod Refusal
 pub mod Written

@@ -12,8 +12,8 @@ use Rattle.machine.specs.declared.Thread.{Thread}
 use Rattle.machine.specs.declared.Effect.{Effect}
 use Rattle.machine.specs.declared.Event.the-variants.{Spins}
 use Rattle.machine.specs.Events.{sameEvent}
+use Rattle.machine.specs.Lines.{upFrom}
 use Rattle.cc_lines.specs.Lines.{printed, lineOf, rowOf, eventIn}
-use Rattle.cc_lines.proofs.Table.{upFrom}
 use Rattle.cc_lines.proofs.Follows.{spin-follows}
 use Rattle.cc_synch.specs.Effect.{goes, lineDoes, executed}
 

@@ -11,7 +11,8 @@ use Rattle.machine.specs.declared.NodeId.{NodeId}
 use Rattle.machine.specs.declared.Node.{Node}
 use Rattle.machine.specs.declared.Thread.{Thread}
 use Rattle.machine.specs.declared.Effect.{Effect}
-use Rattle.cc_lines.specs.Lines.{lineOf, lineRun}
+use Rattle.cc_lines.specs.Lines.{lineOf}
+use Rattle.machine.specs.Lines.{lineRun}
 use Rattle.cc_synch.specs.Effect.{takesOut, executed, refusedEffect, effectOf}
 use Rattle.cc_synch.proofs.Written.{told}
 

@@ -14,8 +14,9 @@ use Rattle.machine.specs.declared.Field.the-variants.{Req, Ret}
 use Rattle.machine.specs.declared.Event.{Event}
 use Rattle.machine.specs.declared.Event.the-variants.{Spins, Other}
 use Rattle.machine.specs.declared.Row.{Row}
+use Rattle.machine.specs.Events.{nodeTold, givenTold, reqTold, retTold}
 use Rattle.machine.proofs.Rows.{rowWrites, rowReads, writesField, writesNode, touchesNode, swapsTail}
-use Rattle.cc_lines.specs.Lines.{Line, L0, L1, L2, L3, L4, L5, L6, L7, L8, L9, L10, L11, L12, L13, L14, L15, L16, L17, L18, L19, L20, L21, rowOf, eventIn, nodeTold, reqTold, retTold}
+use Rattle.cc_lines.specs.Lines.{Line, L0, L1, L2, L3, L4, L5, L6, L7, L8, L9, L10, L11, L12, L13, L14, L15, L16, L17, L18, L19, L20, L21, rowOf, eventIn}
 use Rattle.cc_synch.specs.Effect.{executed}
 
 -- what a line finds: the node that it points to, Tail, the request of the thread's call, and the object's answer to the node's req
@@ -59,6 +60,8 @@ pub record Blind (row : Row) (does : Found → Effect) (f g : Found) : Type 0 wh
   -- the node that it tells, m being that of the row
   pub told-node : (m : NodeId)
       → nodeTold (entryIs row (whereTouched row f g)) (whereTouched row f g .tail) m ≡ nodeTold (entryIs row f) (f .tail) m
+  -- the node that it is given
+  pub given : givenTold (entryIs row (whereTouched row f g)) (whereTouched row f g .tail) ≡ givenTold (entryIs row f) (f .tail)
   -- the req that it applies
   pub req : reqTold (entryIs row (whereTouched row f g)) (whereTouched row f g .node) ≡ reqTold (entryIs row f) (f .node)
   -- the ret that it returns
@@ -83,10 +86,14 @@ pub record Told (row : Row) (does : Found → Effect) (f : Found) : Type 0 where
   -- and by whole nodes: what the row does not touch does not matter
   pub blind : (g : Found) → Blind row does f g
 
--- line 9 tells no node, a spin or not, so Tail does not matter
+-- line 9 tells no node and is given none, a spin or not, so Tail does not matter
 spin-tells-none : (waits : Bool) (to tail m : NodeId) → nodeTold (cond waits Spins Other) to m ≡ nodeTold (cond waits Spins Other) tail m
 spin-tells-none true to tail m = refl
 spin-tells-none false to tail m = refl
+
+spin-given-none : (waits : Bool) (to tail : NodeId) → givenTold (cond waits Spins Other) to ≡ givenTold (cond waits Spins Other) tail
+spin-given-none true to tail = refl
+spin-given-none false to tail = refl
 
 module _ (th : Thread) (x : Node) (tail : NodeId) (h : ℕ) (request : Request) (answer : Answer) where
   pub told : (l : Line)
@@ -100,7 +107,7 @@ module _ (th : Thread) (x : Node) (tail : NodeId) (h : ℕ) (request : Request) 
   told L6 = search
   told L7 = search
   told L8 = search
-  told L9 = search spin-tells-none
+  told L9 = search (spin-tells-none, spin-given-none)
   told L10 = search
   told L11 = search
   told L12 = search

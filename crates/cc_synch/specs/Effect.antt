@@ -5,25 +5,14 @@ use lib.Dec.{leb, ltb, eqb}
 use Rattle.object.specs.declared.Request.{Request}
 use Rattle.object.specs.declared.Answer.{Answer}
 use Rattle.machine.specs.declared.NodeId.{NodeId}
-use Rattle.machine.specs.declared.Announced.{Announced}
-use Rattle.machine.specs.declared.Announced.the-variants.{NoRequest, Asked}
-use Rattle.machine.specs.declared.RetVal.{RetVal}
-use Rattle.machine.specs.declared.RetVal.the-variants.{NoAnswer, Answered}
 use Rattle.machine.specs.declared.Node.{Node}
 use Rattle.machine.specs.declared.Thread.{Thread}
 use Rattle.machine.specs.declared.Effect.{Effect}
-use Rattle.machine.specs.Fields.{null, isNull, withReq, withRet, withWait, withCompleted, withNext}
-use Rattle.cc_lines.specs.Lines.{Line, lineOf, lineRun, following, L0, L1, L2, L3, L4, L5, L6, L7, L8, L9, L10, L11, L12, L13, L14, L15, L16, L17, L18, L19, L20, L21}
+use Rattle.machine.specs.Fields.{null, isNull, isEmptyReq, isEmptyRet, withReq, withRet, withWait, withCompleted, withNext}
+use Rattle.cc_lines.specs.Lines.{Line, lineOf, following, L0, L1, L2, L3, L4, L5, L6, L7, L8, L9, L10, L11, L12, L13, L14, L15, L16, L17, L18, L19, L20, L21}
+use Rattle.machine.specs.Lines.{lineRun}
 
-abbrev pub isEmptyReq : Announced → Bool
-isEmptyReq NoRequest = true
-isEmptyReq (Asked request) = false
-
-abbrev pub isEmptyRet : RetVal → Bool
-isEmptyRet NoAnswer = true
-isEmptyRet (Answered answer) = false
-
--- a thread that goes on to a line, with its variables given
+-- a thread that goes on to a line, with its variables given; those of DSM-Synch stay
 module _ (th : Thread) (line : ℕ) where
   abbrev pub having : NodeId → NodeId → NodeId → NodeId → ℕ → Thread
   having own cur tmp tmpnext served = record {
@@ -35,6 +24,9 @@ module _ (th : Thread) (line : ℕ) where
     tmp = tmp;  -- tmpNode
     tmpnext = tmpnext;  -- tmpNodeNext
     served = served;  -- counter
+    toggle = th .toggle;
+    my = th .my;
+    pred = th .pred;
   }
 
   abbrev pub goes : Thread
@@ -67,6 +59,9 @@ begins th line = record {
   tmp = null;
   tmpnext = null;
   served = 0;
+  toggle = th .toggle;
+  my = th .my;
+  pred = th .pred;
 }
 
 -- line 16 uses the req of its node, lines 11 and 21 the ret

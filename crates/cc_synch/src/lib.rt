@@ -4,7 +4,7 @@ ghost use mathlib.Core.Path.{_≡_};
 ghost use mathlib.Core.Bool.{false};
 ghost use Rattle.machine.specs.Fields.{withReq, withRet};
 ghost use Rattle.cc_lines.specs.Lines.{lineOf};
-ghost use Rattle.cc_synch.specs.Effect.{isEmptyReq, isEmptyRet, usesEmpty, takesOut, lineDoes, executed, effectOf};
+ghost use Rattle.cc_synch.specs.Effect.{usesEmpty, takesOut, lineDoes, executed, effectOf};
 use machine::Announced;
 use machine::Effect;
 use machine::Node;
@@ -124,32 +124,14 @@ fn with_ret(node: Node, answer: Answer) -> Node
     }
 }
 
-fn is_empty_req(req: Announced) -> bool
-    ensures { λ r. ⌜ r ≡ isEmptyReq req ⌝ }
-{
-    match req {
-        Announced::NoRequest => true,
-        Announced::Asked(_) => false,
-    }
-}
-
-fn is_empty_ret(ret: RetVal) -> bool
-    ensures { λ r. ⌜ r ≡ isEmptyRet ret ⌝ }
-{
-    match ret {
-        RetVal::NoAnswer => true,
-        RetVal::Answered(_) => false,
-    }
-}
-
 // Line 16 uses the req of its node, lines 11 and 21 the ret.
 fn uses_empty(node: Node, line: u8) -> bool
     ensures { λ r. ⌜ r ≡ usesEmpty node line ⌝ }
 {
     let req = node.req;
     let ret = node.ret;
-    let no_req = is_empty_req(req);
-    let no_ret = is_empty_ret(ret);
+    let no_req = machine::is_empty_req(req);
+    let no_ret = machine::is_empty_ret(ret);
     (line == 16) & no_req | ((line == 11) | (line == 21)) & no_ret
 }
 
@@ -179,7 +161,7 @@ pub fn run_line(
 ) -> Effect
     ensures { λ r. ⌜ r ≡ effectOf thread node tail h request answer ⌝ }
 {
-    let line = cc_lines::line_run(thread);
+    let line = machine::line_run(thread);
     if takes_out(line, thread, node, h) {
         return Effect {
             refusal: 14,

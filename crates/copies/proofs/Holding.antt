@@ -11,7 +11,7 @@ use lib.Seq.{getD-set-same, getD-set-other}
 use borrow.Author.Tests.{eqb-true, eqb-false}
 use Rattle.machine.specs.declared.Field.{Field}
 use Rattle.machine.specs.declared.NodeId.{NodeId}
-use Rattle.machine.specs.Accesses.{Access, read, write, swap, Location, tail, whole, sameLocation, located}
+use Rattle.machine.specs.Accesses.{Access, read, write, swap, cas, Location, tail, whole, sameLocation, located}
 use Rattle.machine.proofs.Locations.{same-exactly}
 use Rattle.copies.specs.Copies.{hasCopy}
 use Rattle.copies.specs.Remote.{place, hasCopyOf, remoteOf, ends, wordAfter, copiesAfter, referred}
@@ -24,17 +24,19 @@ place-injective tail (whole m) e = absurd (omega arith)
 place-injective (whole m) tail e = absurd (omega arith)
 place-injective (whole m) (whole m′) e = ap (λ (k : ℕ). whole (record { 0 = k })) (omega arith)
 
--- the accesses that end the other threads' copies, in document 01's words: a write or Swap
+-- the accesses that end the other threads' copies, in document 01's words: a write or Swap; a CAS is one of either
 abbrev pub Ends : Access → Type 0
 Ends (read node field) = ⊥
 Ends (write node field) = Unit
 Ends swap = Unit
+Ends cas = Unit
 
 -- `ends` is true of no other
 ends-told : (a : Access) → ends a ≡ true → Ends a
 ends-told (read node field) e = false≢true e
 ends-told (write node field) e = tt
 ends-told swap e = tt
+ends-told cas e = tt
 
 -- an access whose location has a place among the copies
 abbrev pub Inside : List ℕ → Access → Type 0
@@ -61,6 +63,7 @@ module _ (n t : ℕ) (copies : List ℕ) where
     own-held (read node f) h = here (read node f) t h ∙ read-holds _ t (omega arith)
     own-held (write node f) h = here (write node f) t h ∙ write-holds n _ t k m
     own-held swap h = here swap t h ∙ write-holds n _ t k m
+    own-held cas h = here cas t h ∙ write-holds n _ t k m
 
     -- two accesses of one location are remote once, if the thread has no copy, and else not: the second finds the copy that the first made
     pub second-held : (a b : Access) → Inside copies a → located b ≡ located a
@@ -72,6 +75,7 @@ module _ (n t : ℕ) (copies : List ℕ) where
     others-ended (read node f) r u h b d = absurd r
     others-ended (write node f) r u h b d = here (write node f) u h ∙ write-ends n _ t k m u b d
     others-ended swap r u h b d = here swap u h ∙ write-ends n _ t k m u b d
+    others-ended cas r u h b d = here cas u h ∙ write-ends n _ t k m u b d
 
     -- what thread u of the n has of a location after thread t's access: of the access's own, t has a copy, and no other has one that the access ends; of any
     -- other it has what it had
@@ -89,6 +93,7 @@ module _ (n t : ℕ) (copies : List ℕ) where
           left (read node f) inside f′ = read-kept node f u inside (other e)
           left (write node f) inside f′ = absurd (false≢true (sym f′))
           left swap inside f′ = absurd (false≢true (sym f′))
+          left cas inside f′ = absurd (false≢true (sym f′))
 
       by-location : (l : Location) (same : Bool) → sameLocation (located a) l ≡ same
           → hasCopyOf (copiesAfter n t a copies) u l ≡ cond (same && (eqb t u || ends a)) (eqb t u) (hasCopyOf copies u l)

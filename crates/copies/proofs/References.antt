@@ -6,12 +6,13 @@ use mathlib.Core.Path.{_≡_, refl, sym, ap, ap₂, _∙_}
 use mathlib.Core.Bool.{Bool, true, false, cond, false≢true}
 use mathlib.Core.List.{List, [], _∷_, _++_}
 use lib.ListN.{getD, set, length, List·getD-eq-default}
+use Rattle.machine.specs.declared.Method.the-variants.{DsmSynch}
 use Rattle.machine.specs.declared.NodeId.{NodeId}
 use Rattle.machine.specs.declared.SharedAccess.{SharedAccess}
 use Rattle.machine.specs.declared.SharedAccess.the-variants.{NoAccess, Read, Write, Swap}
 use Rattle.machine.specs.Accesses.{Access, located, accessTo}
 use Rattle.copies.specs.Copies.{hasCopy}
-use Rattle.copies.specs.Remote.{place, remoteOf, wordAfter, copiesAfter, referred, isNone}
+use Rattle.copies.specs.Remote.{place, remoteOf, wordAfter, copiesAfter, referredBy, referred, isNone}
 use Rattle.copies.proofs.Valid.{none-held}
 
 -- an access is one remote reference at most
@@ -62,3 +63,8 @@ module _ (n t : ℕ) where
   pub one-of-two : {r : ℕ} {l′ : List ℕ} (l : List ℕ) (xs : List Access) (node : NodeId) (a : SharedAccess) → isNone a ≡ true → Made n t l xs r l′
       → (r ≡ referred n t l (xs ++ accessTo node a) .remote) × (l′ ≡ referred n t l (xs ++ accessTo node a) .copies)
   one-of-two {r} {l′} l xs node a e p = rw (add-zero r) at (two-referred l xs (accessTo node a) p (none-made l′ node a e))
+
+-- DSM-Synch leaves the copies as they are
+pub copies-stay : (n t : ℕ) (l : List ℕ) (xs : List Access) → referredBy DsmSynch n t l xs .copies ≡ l
+copies-stay n t l [] = refl
+copies-stay n t l (x ∷ xs) = copies-stay n t l xs

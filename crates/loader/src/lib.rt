@@ -44,6 +44,9 @@ fn fresh_thread(i: u8, count: u8) -> Thread
         tmp: null,
         tmpnext: null,
         served: 0,
+        toggle: 0,
+        my: null,
+        pred: null,
     }
 }
 

@@ -6,7 +6,7 @@ use mathlib.Core.List.{List, [], _∷_}
 use mathlib.Core.Logic.{_↔_}
 use borrow.Author.Tests.{eqb-true, eq-eqb}
 use Rattle.machine.specs.declared.NodeId.{NodeId}
-use Rattle.machine.specs.Accesses.{Access, read, write, swap, Location, tail, whole, sameLocation, located}
+use Rattle.machine.specs.Accesses.{Access, read, write, swap, cas, Location, tail, whole, sameLocation, located}
 
 -- the test for one location tells exactly that
 same-one : (l l′ : Location) → sameLocation l l′ ≡ true → l ≡ l′
@@ -22,11 +22,12 @@ one-same (whole m) = eq-eqb (m .0) (m .0) refl
 pub same-exactly : (l l′ : Location) → (sameLocation l l′ ≡ true) ↔ (l ≡ l′)
 same-exactly l l′ = (same-one l l′, λ e. rw (sym e) (one-same l))
 
--- the node of an access, of a Swap none
+-- the node of an access, of a Swap or a CAS none
 abbrev pub nodeOf : Access → List NodeId
 nodeOf (read node field) = node ∷ []
 nodeOf (write node field) = node ∷ []
 nodeOf swap = []
+nodeOf cas = []
 
 -- the node of a location, of Tail none; and the location of a node, or of none
 abbrev nodeAt : Location → List NodeId
@@ -41,13 +42,15 @@ its-node : (a : Access) → nodeAt (located a) ≡ nodeOf a
 its-node (read node field) = refl
 its-node (write node field) = refl
 its-node swap = refl
+its-node cas = refl
 
 its-location : (a : Access) → locationOf (nodeOf a) ≡ located a
 its-location (read node field) = refl
 its-location (write node field) = refl
 its-location swap = refl
+its-location cas = refl
 
--- two accesses go to one location exactly if they are of one node, whatever their fields, or both Swaps
+-- two accesses go to one location exactly if they are of one node, whatever their fields, or both of Tail
 pub one-location : (a b : Access) → (located a ≡ located b) ↔ (nodeOf a ≡ nodeOf b)
 one-location a b = (
   λ e. sym (its-node a) ∙ ap nodeAt e ∙ its-node b,

@@ -1,4 +1,4 @@
--- The shared accesses of a line, and the locations that they go to.
+-- The shared accesses of a line, the only source of remote references, and the locations that they go to.
 -- An access is of one field; caches fetch nodes, so its location is the whole node: document 02, No. 5.
 use mathlib.Core.Bool.{Bool, true, false}
 use mathlib.Core.List.{List, [], _∷_, _++_}
@@ -12,17 +12,18 @@ use Rattle.machine.specs.declared.SharedAccess.{SharedAccess}
 use Rattle.machine.specs.declared.SharedAccess.the-variants.{NoAccess, Read, Write, Swap}
 use Rattle.machine.specs.declared.Row.{Row}
 
--- the node that a pointer of the thread gives: the thread's own node, curNode or tmpNode
+-- the node that a pointer of a thread of CC-Synch gives: the thread's own node, curNode or tmpNode
 abbrev pub pointed : Pointer → Thread → NodeId
 pointed Own th = th .own
 pointed Cur th = th .cur
 pointed Tmp th = th .tmp
 
--- an access reads or writes one field of one node, or swaps Tail
+-- an access reads or writes one field of one node, or is a Swap or a CAS on Tail
 pub data Access : Type 0 where
   read : NodeId → Field → Access
   write : NodeId → Field → Access
   swap : Access
+  cas : Access
 
 -- a location is Tail or a whole node
 pub data Location : Type 0 where
@@ -41,6 +42,7 @@ abbrev pub located : Access → Location
 located (read node field) = whole node
 located (write node field) = whole node
 located swap = tail
+located cas = tail
 
 abbrev pub accessTo : NodeId → SharedAccess → List Access
 accessTo node NoAccess = []
@@ -48,6 +50,6 @@ accessTo node (Read field) = read node field ∷ []
 accessTo node (Write field) = write node field ∷ []
 accessTo node Swap = swap ∷ []
 
--- the accesses of a line, in order: the only source of remote references
+-- the accesses of a row, in order
 abbrev pub accessesOf : Row → NodeId → List Access
 accessesOf row node = accessTo node (row .first) ++ accessTo node (row .second)

@@ -1,12 +1,14 @@
--- The fields of a node: their numbers, one of them written, and null.
+-- The fields of a node: their numbers, one of them written, those that may be empty, and null.
 use Prim.Native.Nat.{ℕ}
-use mathlib.Core.Bool.{Bool}
+use mathlib.Core.Bool.{Bool, true, false}
 use lib.Dec.{eqb}
 use Rattle.object.specs.declared.Request.{Request}
 use Rattle.object.specs.declared.Answer.{Answer}
 use Rattle.machine.specs.declared.NodeId.{NodeId}
-use Rattle.machine.specs.declared.Announced.the-variants.{Asked}
-use Rattle.machine.specs.declared.RetVal.the-variants.{Answered}
+use Rattle.machine.specs.declared.Announced.{Announced}
+use Rattle.machine.specs.declared.Announced.the-variants.{NoRequest, Asked}
+use Rattle.machine.specs.declared.RetVal.{RetVal}
+use Rattle.machine.specs.declared.RetVal.the-variants.{NoAnswer, Answered}
 use Rattle.machine.specs.declared.Node.{Node}
 use Rattle.machine.specs.declared.Field.{Field}
 use Rattle.machine.specs.declared.Field.the-variants.{Req, Ret, Wait, Completed, Next}
@@ -17,6 +19,15 @@ null = record { 0 = 255 }
 
 abbrev pub isNull : NodeId → Bool
 isNull m = eqb (m .0) 255
+
+-- whether a req is empty, and a ret
+abbrev pub isEmptyReq : Announced → Bool
+isEmptyReq NoRequest = true
+isEmptyReq (Asked request) = false
+
+abbrev pub isEmptyRet : RetVal → Bool
+isEmptyRet NoAnswer = true
+isEmptyRet (Answered answer) = false
 
 -- the number of a field, and whether two are one
 abbrev pub fieldNumber : Field → ℕ

@@ -1,4 +1,6 @@
 pub mod Accesses
 pub mod Events
 pub mod Fields
+pub mod Lines
+pub mod Owners
 pub mod Sizes

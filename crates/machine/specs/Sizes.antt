@@ -1,9 +1,9 @@
 -- How much room a machine has: for 16 threads, with 16 requests each.
 use Prim.Native.Nat.{ℕ, _+_}
 
--- nodes 0 to n: one for each thread, and the first dummy
+-- two nodes for each thread, as DSM-Synch has them; CC-Synch has nodes 0 to n, one for each thread and the first dummy
 abbrev pub mostNodes : ℕ
-mostNodes = 17
+mostNodes = 32
 
 -- the locations of a machine with so many nodes: Tail, and each of them
 abbrev pub locationsOf : ℕ → ℕ

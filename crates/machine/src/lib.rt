@@ -1,22 +1,30 @@
 // Threads, nodes and Tail, the accesses of a line to them, and what an entry is. No printed line is looked at here.
 ghost use mathlib.Core.Path.{_≡_};
-ghost use Rattle.machine.specs.Fields.{isNull};
+ghost use Rattle.machine.specs.Fields.{isNull, isEmptyReq, isEmptyRet};
 ghost use Rattle.machine.specs.Accesses.{pointed};
 ghost use Rattle.machine.specs.Events.{eventNumber, sameEvent};
+ghost use Rattle.machine.specs.Lines.{lineRun};
 use object::Answer;
 use object::Request;
 
 // A thread's number, 0 to n − 1.
 pub struct ThreadId(pub u8);
 
-// A node's number, 0 to n, or null.
+// A node's number, or null: CC-Synch has nodes 0 to n, DSM-Synch 0 to 2n − 1.
 pub struct NodeId(pub u8);
+
+// What a machine steps: Algorithm 1 or Algorithm 2 of source 004.
+pub enum Method {
+    CcSynch,
+    DsmSynch,
+}
 
 // Null is no node's number.
 pub const NULL: u8 = 255;
 
-// Room for nodes 0 to n, one for each of 16 threads and the first dummy; for Tail and each of them as locations; and for 16 calls of each thread.
-pub const NODES: usize = 17;
+// Room for two nodes of each of 16 threads, of which CC-Synch has one each and the first dummy; for Tail and each of them as locations; and for 16 calls of each
+// thread.
+pub const NODES: usize = 32;
 
 pub const LOCATIONS: usize = 1 + NODES;
 
@@ -42,19 +50,22 @@ pub struct Node {
     pub next: NodeId,
 }
 
-// A thread: how many requests it has and has begun, the line that it runs next (0 is idle), and its variables.
+// A thread: how many requests it has and has begun, the line that it runs next (0 is idle), and the variables of either method.
 pub struct Thread {
     pub count: u8,
     pub begun: u8,
     pub line: u8,
-    pub own: NodeId, // node_i
-    pub cur: NodeId, // curNode
+    pub own: NodeId, // node_i of CC-Synch
+    pub cur: NodeId, // curNode of CC-Synch
     pub tmp: NodeId, // tmpNode
-    pub tmpnext: NodeId, // tmpNodeNext
+    pub tmpnext: NodeId, // tmpNodeNext of CC-Synch
     pub served: u8, // counter
+    pub toggle: u8, // toggle_i of DSM-Synch
+    pub my: NodeId, // myNode of DSM-Synch
+    pub pred: NodeId, // myPredNode of DSM-Synch
 }
 
-// Which of its variables a line goes through to a node.
+// Which of its variables a line of CC-Synch goes through to a node.
 pub enum Pointer {
     Own,
     Cur,
@@ -69,7 +80,7 @@ pub enum Field {
     Next,
 }
 
-// A shared access of a line: of a field of the node that it points to, or a Swap on Tail.
+// A shared access of a line of CC-Synch: of a field of the node that it points to, or a Swap on Tail.
 pub enum SharedAccess {
     NoAccess,
     Read(Field),
@@ -90,7 +101,7 @@ pub enum Event {
     Other,
 }
 
-// A line's row of the table: the node that it points to, its accesses in order, and what an entry of it is; a line that spins does so only where it stays.
+// A line's row of CC-Synch's table: the node that it points to, its accesses in order, and what an entry of it is; a line that spins does so only where it stays.
 pub struct Row {
     pub node: Pointer,
     pub first: SharedAccess,
@@ -98,7 +109,7 @@ pub struct Row {
     pub event: Event,
 }
 
-// What a line does: refusal 0 with the thread, the node that it points to and Tail after it, or 14 with all as it was.
+// What a line does: refusal 0 with the thread, the node that it writes, if it writes one, and Tail after it, or 14 with all as it was.
 pub struct Effect {
     pub refusal: u8,
     pub thread: Thread,
@@ -112,7 +123,39 @@ pub fn is_null(node: NodeId) -> bool
     node.0 == NULL
 }
 
-// The node that a line points to.
+// Whether a node's req is empty, and its ret.
+pub fn is_empty_req(req: Announced) -> bool
+    ensures { λ r. ⌜ r ≡ isEmptyReq req ⌝ }
+{
+    match req {
+        Announced::NoRequest => true,
+        Announced::Asked(_) => false,
+    }
+}
+
+pub fn is_empty_ret(ret: RetVal) -> bool
+    ensures { λ r. ⌜ r ≡ isEmptyRet ret ⌝ }
+{
+    match ret {
+        RetVal::NoAnswer => true,
+        RetVal::Answered(_) => false,
+    }
+}
+
+// The line that the thread's entry runs, 0 for a blank.
+pub fn line_run(thread: Thread) -> u8
+    ensures { λ r. ⌜ r ≡ lineRun thread ⌝ }
+{
+    if thread.line == 0 {
+        if thread.begun < thread.count {
+            return 1;
+        }
+        return 0;
+    }
+    thread.line
+}
+
+// The node that a line of CC-Synch points to.
 pub fn pointed(pointer: Pointer, thread: Thread) -> NodeId
     ensures { λ r. ⌜ r ≡ pointed pointer thread ⌝ }
 {

@@ -2,7 +2,7 @@
 use Prim.Native.Nat.{ℕ, _≤_, _<_}
 use native.Mathlib.Decide.{ℕ-discrete}
 use mathlib.Core.Path.{_≡_, refl, sym}
-use mathlib.Core.Bool.{Bool, true, false, cond, _||_, false≢true}
+use mathlib.Core.Bool.{Bool, true, false, cond, _&&_, _||_, false≢true}
 use lib.Dec.{ltb}
 use borrow.Author.Tests.{ltb-true, ltb-false}
 
@@ -30,6 +30,11 @@ by-test false on off = off refl
 pub either : {A : Type 0} (P : A → Type 0) {a b : A} (t : Bool) → (t ≡ true → P a) → (t ≡ false → P b) → P (cond t a b)
 either P true on off = on refl
 either P false on off = off refl
+
+-- a second test that fails where the first passes
+pub unless : (a b : Bool) → (a ≡ true → b ≡ false) → (a && b) ≡ false
+unless true b f = f refl
+unless false b f = refl
 
 -- two tests of which neither passes
 pub both-fail : (a b : Bool) → (a || b) ≡ false → (a ≡ false) × (b ≡ false)

@@ -1,10 +1,13 @@
--- The fresh machine of document 01: all threads idle, no request begun, no copies, the object empty or 0, all counts 0.
+-- The fresh machine of document 01, and of document 02, No. 6: all threads idle, no request begun, no copies, the object empty or 0, all counts 0.
 use Prim.Native.Nat.{ℕ, _+_}
 use mathlib.Core.Bool.{false}
 use mathlib.Core.List.{List, [], _∷_}
 use lib.ListN.{replicate}
 use Rattle.object.specs.declared.Kind.{Kind}
 use Rattle.object.specs.Apply.{freshObject}
+use Rattle.machine.specs.declared.Method.{Method}
+use Rattle.machine.specs.declared.Method.the-variants.{CcSynch, DsmSynch}
+use Rattle.machine.specs.declared.NodeId.{NodeId}
 use Rattle.machine.specs.declared.Announced.the-variants.{NoRequest}
 use Rattle.machine.specs.declared.RetVal.the-variants.{NoAnswer}
 use Rattle.machine.specs.declared.Node.{Node}
@@ -18,7 +21,7 @@ use Rattle.state.specs.declared.State.{State}
 abbrev pub freshNode : Node
 freshNode = record { req = NoRequest; ret = NoAnswer; wait = false; completed = false; next = null }
 
--- thread i is idle, has begun no request and starts with node i + 1
+-- thread i is idle and has begun no request; in CC-Synch it starts with node i + 1, in DSM-Synch with toggle 0
 abbrev pub freshThread : ℕ → ℕ → Thread
 freshThread i count = record {
   count = count;
@@ -29,6 +32,9 @@ freshThread i count = record {
   tmp = null;
   tmpnext = null;
   served = 0;
+  toggle = 0;
+  my = null;
+  pred = null;
 }
 
 -- threads from number i on, one for each count
@@ -36,14 +42,19 @@ abbrev pub freshThreads : ℕ → List ℕ → List Thread
 freshThreads i [] = []
 freshThreads i (count ∷ counts) = freshThread i count ∷ freshThreads (i + 1) counts
 
--- the machine of a file's head, its counts and its requests: node 0 is the first dummy, and Tail points to it
-abbrev pub freshState : Kind → ℕ → ℕ → ℕ → List ℕ → List Slot → State
-freshState kind n h capacity counts requests = record {
+-- Tail at the start: CC-Synch's node 0 is the first dummy, and Tail points to it; DSM-Synch's list is empty
+abbrev pub freshTail : Method → NodeId
+freshTail CcSynch = record { 0 = 0 }
+freshTail DsmSynch = null
+
+-- the machine of a method, of a file's head, its counts and its requests
+abbrev pub freshStateBy : Method → Kind → ℕ → ℕ → ℕ → List ℕ → List Slot → State
+freshStateBy m kind n h capacity counts requests = record {
   n = n;
   h = h;
   kind = kind;
   capacity = capacity;
-  tail = record { 0 = 0 };
+  tail = freshTail m;
   threads = freshThreads 0 counts;
   nodes = replicate mostNodes freshNode;
   requests = requests;
@@ -51,3 +62,7 @@ freshState kind n h capacity counts requests = record {
   object = freshObject;
   counts = record { records = 0; turns = 0; blanks = 0; spins = 0; remote = 0 };
 }
+
+-- the same of CC-Synch
+abbrev pub freshState : Kind → ℕ → ℕ → ℕ → List ℕ → List Slot → State
+freshState = freshStateBy CcSynch

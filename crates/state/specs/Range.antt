@@ -1,4 +1,4 @@
--- The ranges of a state, number by number: document 01, 'A single step judges 14 ..', and request No. 3. What lies past n, a thread's count or the items held
+-- The ranges of a state of CC-Synch, number by number: document 01, 'A single step judges 14 ..', and request No. 3. What lies past n, a thread's count or the items held
 -- is not judged.
 use Prim.Native.Nat.{ℕ, _+_, _*_, _^_}
 use mathlib.Core.Bool.{Bool, true, false, _&&_, _||_}

@@ -195,6 +195,9 @@ fn thread(count: u8, begun: u8, line: u8, node: u8, served: u8) -> Thread {
         tmp: NodeId(node),
         tmpnext: NodeId(node),
         served,
+        toggle: served,
+        my: NodeId(node),
+        pred: NodeId(node),
     }
 }
 

@@ -138,6 +138,9 @@ fn thread(at: usize, a: Thread, b: Thread) {
     in_thread(at, b".tmp", a.tmp.0, b.tmp.0);
     in_thread(at, b".tmpnext", a.tmpnext.0, b.tmpnext.0);
     in_thread(at, b".served", a.served, b.served);
+    in_thread(at, b".toggle", a.toggle, b.toggle);
+    in_thread(at, b".my", a.my.0, b.my.0);
+    in_thread(at, b".pred", a.pred.0, b.pred.0);
 }
 
 fn flag(at: usize, part: &[u8], before: bool, after: bool) {

@@ -2,7 +2,8 @@
 use Prim.Native.Nat.{ℕ}
 use mathlib.Core.Path.{_≡_, sym, ap, _∙_}
 use borrow.Author.Needs.{needs}
-use Rattle.cc_lines.specs.Lines.{lineOf, lineRun}
+use Rattle.cc_lines.specs.Lines.{lineOf}
+use Rattle.machine.specs.Lines.{lineRun}
 use Rattle.cc_synch.specs.Effect.{takesOut, executed}
 use Rattle.cc_synch.proofs.Refusal.{goes-ahead}
 use Rattle.cc_synch.proofs.run_line.Statement.{statement}

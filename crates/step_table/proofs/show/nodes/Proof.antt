@@ -1,14 +1,14 @@
--- `step_table::show::nodes` is safe and ends: `i` is at most 17. Assumes nothing.
+-- `step_table::show::nodes` is safe and ends: `i` is at most 32. Assumes nothing.
 use Prim.Native.Nat.{_≤_, _-_}
 use borrow.Author.Needs.{needs}
 use Rattle.step_table.proofs.show.nodes.Statement.{statement}
 use Rattle.step_table.proofs.show.nodes.Tie as tie
 
 abbrev Inv-loop : tie.InvT-loop
-Inv-loop a b i₀ i = i ≤ 17
+Inv-loop a b i₀ i = i ≤ 32
 
 abbrev μ-loop : tie.MeasureT-loop
-μ-loop a b i₀ i = 17 - i
+μ-loop a b i₀ i = 32 - i
 
 loop-holds : tie.Need-loop-holds Inv-loop μ-loop
 loop-holds c = search needs

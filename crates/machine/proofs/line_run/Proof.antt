@@ -1,7 +1,7 @@
--- `cc_lines::line_run` meets its contract: idle with a request left, idle without, or at a line. Assumes nothing.
+-- `machine::line_run` meets its contract: idle with a request left, idle without, or at a line. Assumes nothing.
 use borrow.Author.Tests.{eq-eqb, ne-eqb, lt-ltb, le-ltb}
-use Rattle.cc_lines.proofs.line_run.Statement.{statement}
-use Rattle.cc_lines.proofs.line_run.Tie as tie
+use Rattle.machine.proofs.line_run.Statement.{statement}
+use Rattle.machine.proofs.line_run.Tie as tie
 
 returns : tie.Need-returns
 returns c = simp (eq-eqb _ _ (c .before .before .if1 .taken), lt-ltb _ _ (c .if2 .taken))
