@@ -1,0 +1,3 @@
+pub mod Effect
+pub mod Lines
+pub mod Said
