@@ -7,6 +7,7 @@ use mathlib.Core.Bool.{false}
 use mathlib.Core.List.{List, [], _∷_}
 use Rattle.object.specs.Each.{Each}
 use Rattle.bench_file.specs.Layout.{Fields}
+use Rattle.machine.specs.declared.Method.the-variants.{CcSynch}
 use Rattle.machine.specs.declared.ThreadId.{ThreadId}
 use Rattle.machine.specs.Accesses.{Access, Location, located}
 use Rattle.machine.specs.Sizes.{mostLocations}
@@ -53,12 +54,12 @@ module _ (s : State) (t : ThreadId) (sound : Sound s) (below : t .0 < s .n) wher
   inside : Each (Inside (s .copies)) (accesses s t)
   inside =
       subst (λ (k : ℕ). Each (λ (a : Access). place (located a) < k) (accesses s t)) (sym (sound .shape .copies))
-      (near-of 16 (target s t) (omega (arith, few, target-in-range s t (sound .shape) (sound .range) below)) (row s t))
+      (near-of 31 (target s t) (omega (arith, few, target-in-range s t (sound .shape) (sound .range) below)) (row s t))
 
   pub step-said : StepSaid s t
   step-said = record {
     remote = remote-marks (s .n) (t .0) below few (s .copies) (accesses s t) inside;
-    counted = remote-ones (s .n) (t .0) (s .copies) (accesses s t);
+    counted = remote-ones CcSynch (s .n) (t .0) (s .copies) (accesses s t);
     copies = λ u l h. all-after (s .n) (t .0) below few u h l (s .copies) (accesses s t) inside;
   }
 

@@ -1,7 +1,11 @@
+pub mod Accesses
 pub mod Bytes
+pub mod Chronicle
+pub mod Chronicled
 pub mod CopiesSaid
 pub mod Counted
 pub mod Cut
+pub mod Demand
 pub mod Filled
 pub mod InTurns
 pub mod Layers
@@ -16,5 +20,6 @@ pub mod Seen
 pub mod Sharp
 pub mod Start
 pub mod Steps
+pub mod Telling
 pub mod Theorem
 pub mod Told

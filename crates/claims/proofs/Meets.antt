@@ -15,7 +15,8 @@ use Rattle.machine.specs.Events.{eventNumber, sameEvent}
 use Rattle.cc_lines.specs.Lines.{Line, rowOf, eventIn, L0, L1, L2, L3, L4, L5, L6, L7, L8, L9, L10, L11, L12, L13, L14, L15, L16, L17, L18, L19, L20, L21}
 use Rattle.cc_lines.proofs.Events.{by-row}
 use Rattle.step.specs.Entry.{oneIf}
-use Rattle.step.specs.Numbers.{number, standsAt}
+use Rattle.step.specs.Numbers.{number}
+use Rattle.machine.specs.Lines.{standsAt}
 use Rattle.step.proofs.Numbers.{each-line, number-most, by-line}
 use Rattle.invariant.specs.Ledger.{Ledger, noted}
 use Rattle.invariant.specs.View.{View, goal, does, Does}

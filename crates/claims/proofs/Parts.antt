@@ -1,8 +1,8 @@
--- What the invariant of a file's run says of its entries: each part of the claim. Assumes `Going` and `Layers` of the state and its entries.
+-- What the invariant of a file's run by either method says of its entries: each part of the claim. Assumes `Going` and a chronicle of the state and its entries.
 use Prim.Native.Nat.{ℕ, _≤_, _<_, _^_}
 use native.Mathlib.Omega.{arith}
 use mathlib.Core.Path.{_≡_, sym, ap, _∙_}
-use mathlib.Core.Bool.{true}
+use mathlib.Core.Bool.{Bool, true}
 use mathlib.Core.List.{List, [], _∷_, map, map-map}
 use lib.ListN.{length, getD, take, drop, length-map}
 use lib.Seq.{getD-take}
@@ -22,32 +22,31 @@ use Rattle.object.proofs.Fitting.{AnswerFits, answers-fit}
 use Rattle.bench_file.specs.Layout.{Fields}
 use Rattle.bench_file.specs.Bytes.{lowFirst, Byte, InRange}
 use Rattle.bench_file.proofs.RoundTrip.{capacity-byte, request-fits}
+use Rattle.machine.specs.declared.Method.{Method}
 use Rattle.machine.specs.declared.Announced.the-variants.{NoRequest, Asked}
 use Rattle.machine.specs.declared.RetVal.{RetVal}
 use Rattle.machine.specs.declared.RetVal.the-variants.{NoAnswer, Answered}
 use Rattle.machine.specs.declared.Event.{Event}
 use Rattle.machine.specs.declared.Event.the-variants.{CallBegins, Swaps, TurnBegins, Applies, Returns}
 use Rattle.state.specs.declared.State.{State}
-use Rattle.state.proofs.RangeFacts.{state-fits}
 use Rattle.step.specs.Entry.{oneIf}
-use Rattle.step.proofs.Outcome.{thread-fits}
-use Rattle.invariant.specs.View.{viewOf}
 use Rattle.invariant.proofs.Feeding.{answers-take}
 use Rattle.history.specs.Entries.{Entry, threadId, is, howMany}
 use Rattle.history.specs.Terms.{Call, Serving, Shown, noThread, noCall, noTurn, does, swapOrder, swapAt, servings, shown, unshown, shownOf, retMark, retValue, numberAt, recordsOf, recordOf, costOf, returned, noEntry, numberOf, beganAt, swappedAt, returnedAt, precedes, servingOf, callOf}
+use Rattle.history.specs.Method.{Positions}
 use Rattle.history.specs.History.{Settled, SwapTime}
 use Rattle.history.proofs.Places.{map-at}
 use Rattle.history.proofs.Shown.{record-at, applied, shown-each, shown-at, shown-none}
 use Rattle.history.proofs.Sums.{one-each, cost-fits, tests-few, servings-few}
 use Rattle.history.proofs.Times.{number-below, number-none, number-most, by-numbers}
 use Rattle.history.proofs.Turns.{one-combiner}
-use Rattle.claims.specs.Claims.{RecordSized, ReturnedCall, Timed, Earlier, Claimed, HasAnswer, plainAnswers, askedOf, askedBy}
+use Rattle.claims.specs.Claims.{RecordSized, ReturnedCall, Timed, Earlier, ClaimedBy, HasAnswer, plainAnswers, askedOf, askedBy}
 use Rattle.claims.proofs.InTurns.{in-turns}
 use Rattle.claims.proofs.Bytes.{mark-below, record-sized, mark-byte, server-byte, value-bytes, state-byte, turn-bytes, began-bytes, returned-bytes}
-use Rattle.claims.proofs.Layers.{Layers, Bounded, jobsOf}
-use Rattle.claims.proofs.Meets.{one-turn}
+use Rattle.claims.proofs.Chronicle.{Chronicle, jobsOf}
+use Rattle.claims.proofs.Chronicled.{Chronicled}
 use Rattle.claims.proofs.Run.{Going}
-use Rattle.claims.proofs.Seen.{seenOf, positionsOf}
+use Rattle.claims.proofs.Start.{row-few}
 
 -- bytes of a record
 module _ (history : List Entry) where
@@ -60,14 +59,21 @@ module _ (history : List Entry) where
       → take 2 (getD (recordsOf history) i []) ≡ getD (swapOrder history) i d .thread .0 ∷ getD (swapOrder history) i d .request ∷ []
   names i d k = rw (record-at history i d k)
 
-module _ (f : Fields) (fits : InRange f) (s : State) (history : List Entry) (going : Going f s history) (now : Layers f s history) where
-  swaps-done : howMany Swaps history ≡ now .ledger .s
+module _ (Bounded : Bool → ℕ → ℕ → Type 0) (m : Method) (f : Fields) (fits : InRange f) (s : State) (history : List Entry) (going : Going m f s history)
+    (kept : Chronicled Bounded m f s history) where
+  abbrev p : Positions
+  p = kept .positions
+
+  abbrev now : Chronicle Bounded f (kept .seen) p (kept .cost) (kept .answers) history
+  now = kept .chronicle
+
+  swaps-done : howMany Swaps history ≡ p .s
   swaps-done = sym (one-each Swaps callOf history) ∙ now .swaps .swaps
 
-  all-served : length (servings history) ≡ now .ledger .a
-  all-served = applied (now .swaps) (now .control .order .applied)
+  all-served : length (servings history) ≡ p .a
+  all-served = applied (now .swaps) (now .order)
 
-  requests-applied : howMany Applies history ≡ now .ledger .a
+  requests-applied : howMany Applies history ≡ p .a
   requests-applied = sym (one-each Applies servingOf history) ∙ all-served
 
   -- what stands where no serving does
@@ -81,30 +87,27 @@ module _ (f : Fields) (fits : InRange f) (s : State) (history : List Entry) (goi
   of-the-file : (i : ℕ) → i < howMany Swaps history → swapAt history i .request < length (askedOf f (swapAt history i .thread))
   of-the-file i b =
       let c = now .swaps .swapped i noCall (omega (arith, swaps-done)) in
-      let fits = thread-fits s (swapAt history i .thread) (going .sound .shape) (going .sound .range) (c .thread) in
-      omega (arith, c .begun, fits .counted, now .rows (swapAt history i .thread .0) (c .thread))
+      omega (arith, c .begun, now .begun (swapAt history i .thread .0) (c .thread))
 
   -- the answers given are the plain object's
-  plain : now .answers ≡ take (now .ledger .a) (plainAnswers f history)
-  plain =
-      rw (← going .kind, ← going .capacity)
-      (now .object .plain ∙ sym (answers-take (s .kind) (s .capacity) fresh (now .ledger .a) (jobsOf f history)))
+  plain : kept .answers ≡ take (p .a) (plainAnswers f history)
+  plain = kept .fed .plain ∙ sym (answers-take (f .head .object) (f .head .capacity) fresh (p .a) (jobsOf f history))
 
-  plain-answer : (i : ℕ) → i < now .ledger .a → getD (servings history) i none .answer ≡ Answered (getD (plainAnswers f history) i Empty)
+  plain-answer : (i : ℕ) → i < p .a → getD (servings history) i none .answer ≡ Answered (getD (plainAnswers f history) i Empty)
   plain-answer i b =
       sym (map-at (λ (w : Serving). w .answer) (servings history) i none NoAnswer (omega (arith, all-served)))
       ∙ ap (λ (l : List RetVal). getD l i NoAnswer) (now .answered)
-      ∙ map-at Answered (now .answers) i Empty NoAnswer (omega (arith, now .object .applied))
-      ∙ ap Answered (ap (λ (l : List Answer). getD l i Empty) plain ∙ getD-take (now .ledger .a) (plainAnswers f history) i Empty b)
+      ∙ map-at Answered (kept .answers) i Empty NoAnswer (omega (arith, kept .fed .applied))
+      ∙ ap Answered (ap (λ (l : List Answer). getD l i Empty) plain ∙ getD-take (p .a) (plainAnswers f history) i Empty b)
 
-  shown-there : (i : ℕ) → i < now .ledger .a → shownOf (swapAt history i) (servings history) ≡ shown (getD (servings history) i none)
-  shown-there i b = shown-at (now .swaps) (now .control .order .applied) i none noCall b
+  shown-there : (i : ℕ) → i < p .a → shownOf (swapAt history i) (servings history) ≡ shown (getD (servings history) i none)
+  shown-there i b = shown-at (now .swaps) (now .order) i none noCall b
 
   -- what serves is a thread of the file
   served-by : (i : ℕ) → i < howMany Applies history → shownOf (swapAt history i) (servings history) .server .0 < f .head .n
   served-by i b =
       rw (shown-there i (omega (arith, requests-applied)))
-      (omega (arith, each-getD (λ (w : Serving). w .server .0 < s .n) (servings history) i none (now .servers) (omega (arith, all-served, requests-applied)), going .n))
+      (each-getD (λ (w : Serving). w .server .0 < f .head .n) (servings history) i none (now .servers) (omega (arith, all-served, requests-applied)))
 
   served-in : (i : ℕ) → i < howMany Applies history → shownOf (swapAt history i) (servings history) .turn < howMany TurnBegins history
   served-in i b =
@@ -112,17 +115,17 @@ module _ (f : Fields) (fits : InRange f) (s : State) (history : List Entry) (goi
       (each-getD (λ (w : Serving). w .turn < howMany TurnBegins history) (servings history) i none (in-turns history (now .by-combiner)) (omega (arith, all-served, requests-applied)))
 
   unserved : (i : ℕ) → howMany Applies history ≤ i → i < howMany Swaps history → shownOf (swapAt history i) (servings history) ≡ unshown
-  unserved i low high = shown-none (now .swaps) (now .control .order .applied) i noCall (omega (arith, requests-applied)) (omega (arith, swaps-done))
+  unserved i low high = shown-none (now .swaps) (now .order) i noCall (omega (arith, requests-applied)) (omega (arith, swaps-done))
 
   shows-answer : (i : ℕ) → i < howMany Applies history
       → HasAnswer (getD (recordsOf history) i []) (answerMark (getD (plainAnswers f history) i Empty)) (answerValue (getD (plainAnswers f history) i Empty))
   shows-answer i b =
-      let k : i < now .ledger .a = omega (arith, requests-applied) in
-      let shows = record-shows history i noCall (shown (getD (servings history) i none)) (omega (arith, now .control .order .applied, now .swaps .swaps)) (shown-there i k) in
+      let k : i < p .a = omega (arith, requests-applied) in
+      let shows = record-shows history i noCall (shown (getD (servings history) i none)) (omega (arith, now .order, now .swaps .swaps)) (shown-there i k) in
       rw (plain-answer i k) at shows
 
   -- a returned call
-  settles : (c : Call) → Settled Bounded (s .n) (seenOf (viewOf s)) (positionsOf (now .ledger)) history c → ReturnedCall history c (shownOf c (servings history))
+  settles : (c : Call) → Settled Bounded (f .head .n) (kept .seen) p history c → ReturnedCall m history c (shownOf c (servings history))
   settles c o =
       let is : shownOf c (servings history) ≡ shown (getD (servings history) (o .position) none) = rw (← o .call noCall) (shown-there (o .position) (o .applied)) in
       rw is (record {
@@ -130,8 +133,8 @@ module _ (f : Fields) (fits : InRange f) (s : State) (history : List Entry) (goi
         by-itself = o .serving none .server;
         own-turn = o .serving none .own-turn;
         answer = o .serving none .answer;
-        by-another = λ z. o .by-another (sym (o .serving none .server) ∙ z);
-        combining = o .by-itself;
+        by-another = λ z. kept .by-another c o (sym (o .serving none .server) ∙ z);
+        combining = kept .combining c o;
       })
 
   cost : (i : ℕ) → i < howMany Swaps history → take 4 (drop 8 (getD (recordsOf history) i [])) ≡ lowFirst 4 (costOf (swapAt history i) history)
@@ -144,12 +147,11 @@ module _ (f : Fields) (fits : InRange f) (s : State) (history : List Entry) (goi
       each-there RecordSized [] (recordsOf history) (λ i b.
       let b : i < length (swapOrder history) = omega (arith, length-map (swapOrder history) (recordOf history)) in
       let c = now .swaps .swapped i noCall (omega (arith, now .swaps .swaps)) in
-      let fits = thread-fits s (swapAt history i .thread) (going .sound .shape) (going .sound .range) (c .thread) in
-      let few = state-fits s (going .sound .range) .small in
+      let t = swapAt history i .thread .0 in
       rw (record-at history i noCall b)
-      (record-sized history (swapAt history i) (omega (arith, c .thread)) (omega (arith, c .begun, fits .counted, fits .few))
+      (record-sized history (swapAt history i) (omega (arith, c .thread, fits .head .n)) (omega (arith, c .begun, now .begun t (c .thread), row-few f fits t (c .thread)))
       (shown-each (λ (w : Shown). Byte (w .server .0)) (omega arith) (swapAt history i) (servings history)
-      (each-map (λ (w : Serving) h. omega (arith, h)) (servings history) (now .servers)))))
+      (each-map (λ (w : Serving) h. omega (arith, h, fits .head .n)) (servings history) (now .servers)))))
 
   -- the value of every answer fits 32 bits, since those of the file's requests do, and a done count is in range
   asked-fits : (c : Call) → requestValue (askedBy f c) < 2 ^ 32
@@ -168,8 +170,8 @@ module _ (f : Fields) (fits : InRange f) (s : State) (history : List Entry) (goi
   shown-fits : (P : RetVal → Type 0) → P NoAnswer → ((a : Answer) → AnswerFits (f .head .capacity) a → P (Answered a))
       → (c : Call) → P (shownOf c (servings history) .ret)
   shown-fits P unserved holds c =
-      let plainly = each-take _ (now .ledger .a) (plainAnswers f history) (each-map holds (plainAnswers f history) answers-given) in
-      let given : Each P (map Answered (now .answers)) = rw plain (each-mapped P Answered (take (now .ledger .a) (plainAnswers f history)) plainly) in
+      let plainly = each-take _ (p .a) (plainAnswers f history) (each-map holds (plainAnswers f history) answers-given) in
+      let given : Each P (map Answered (kept .answers)) = rw plain (each-mapped P Answered (take (p .a) (plainAnswers f history)) plainly) in
       let served : Each P (map (λ (w : Serving). w .answer) (servings history)) = rw (now .answered) given in
       shown-each (λ (w : Shown). P (w .ret)) unserved c (servings history) (each-unmapped P (λ (w : Serving). w .answer) (servings history) served)
 
@@ -219,7 +221,7 @@ module _ (f : Fields) (fits : InRange f) (s : State) (history : List Entry) (goi
   precedence c k b z =
       let o = now .times .ordered c (swapAt history k) z in
       let mine = now .calls .settled c (o .returned) in
-      let inside : mine .position < now .ledger .s = omega (arith, mine .applied, now .control .order .applied) in
+      let inside : mine .position < p .s = omega (arith, mine .applied, now .order) in
       let time : SwapTime history c = rw (mine .call noCall) at (now .times .swapped (mine .position) noCall inside) in
       let less : swappedAt c history < swappedAt (swapAt history k) history = omega (arith, time .returned (o .returned), o .numbers, timed k b .begins) in
       by-order (mine .position) k (λ before. record { position = mine .position; before = before; call = mine .call noCall })
@@ -244,13 +246,13 @@ module _ (f : Fields) (fits : InRange f) (s : State) (history : List Entry) (goi
       let o = precedence (swapAt history i) k b′ (as-numbered (swapAt history i) k b′ ∙ lt-ltb _ _ less) in
       by-order (o .position) i (λ low. absurd (now .swaps .once (o .position) i noCall low (omega (arith, swaps-done)) (o .call))) (λ high. omega (arith, o .before))
 
-  pub claim : Claimed f history
+  pub claim : ClaimedBy m f history
   claim = record {
     of-the-file = of-the-file;
     distinct = λ i k b m. now .swaps .once i k noCall b (omega (arith, swaps-done));
     blanks = now .blanks;
     over = now .over;
-    at-most-swapped = omega (arith, requests-applied, swaps-done, now .control .order .applied);
+    at-most-swapped = omega (arith, requests-applied, swaps-done, now .order);
     in-swap-order = rw requests-applied (now .swaps .served);
     requests = rw (requests-applied, ← now .swaps .served) (now .asked ∙ sym (map-map (λ (c : Call). Asked (askedBy f c)) (λ (w : Serving). w .call) (servings history)));
     answers = rw (requests-applied, ← plain) (now .answered);
@@ -266,15 +268,15 @@ module _ (f : Fields) (fits : InRange f) (s : State) (history : List Entry) (goi
     unserved = unserved;
     value-fits = value-fits;
     done-counts = done-counts;
-    one-combiner = λ t u p q. ap threadId (one-combiner (one-turn (now .control)) (now .turns) (t .0) (u .0) p q);
+    one-combiner = λ t u p q. ap threadId (one-combiner (now .one-turn) (now .turns) (t .0) (u .0) p q);
     combiner-applies = now .by-combiner;
-    at-most-h = λ turn. omega (arith, now .turns .most turn, going .h);
+    at-most-h = now .turns .most;
     turns-fit = omega (arith, tests-few (is TurnBegins) history, going .short);
     turn-fits = turn-fits;
     settled = λ c z. settles c (now .calls .settled c z);
     cost = cost;
     cost-fits = cost-fits history (going .counted .few) (going .short);
-    remote = now .said;
+    remote = kept .said;
     began-at = began-at;
     returned-at = returned-at;
     timed = timed;

@@ -14,6 +14,7 @@ use Rattle.bench_file.specs.Reading.{field, littleEndian, byte, ruledByte, seve
 use Rattle.bench_file.specs.Layout.{Fields, Judgement, accepted, refusedBy, startReader, limitsReader, headReader, requestReader, rowReader, scheduleReader, fileReader, judgeOf}
 use Rattle.bench_file.specs.Bytes.{Byte, lowFirst, eachBytes, bytesOf}
 use Rattle.bench_file.proofs.RoundTrip.{accepted-in-range}
+use Rattle.machine.specs.declared.Method.the-variants.{CcSynch}
 use Rattle.history.specs.Terms.{Call, returned, servings, shownOf}
 use Rattle.claims.specs.Entries.{entriesFrom, historyOf}
 use Rattle.claims.specs.Claims.{mostByAnother, mostCombining, ReturnedCall}
@@ -54,7 +55,7 @@ module _ (Premise : Became → Type 0) (r : Sharp) (reached : Reached r) (over :
 
 -- a returned call of an accepted file's run, as the claim has it
 settled : (bytes : List ℕ) (f : Fields) → Each Byte bytes → judgeOf bytes ≡ accepted f → (c : Call) → returned c (historyOf f) ≡ true
-    → ReturnedCall (historyOf f) c (shownOf c (servings (historyOf f)))
+    → ReturnedCall CcSynch (historyOf f) c (shownOf c (servings (historyOf f)))
 settled bytes f each judged c over = claim-whole f (accepted-in-range bytes f each judged) .settled c over
 
 pub by-another-exactly : (b : ℕ) → Bounds ByAnother b ↔ (mostByAnother ≤ b)

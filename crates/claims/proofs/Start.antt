@@ -1,4 +1,5 @@
--- The fresh machine of a file: its threads, its requests, that it is sound, and that it is fresh in the invariant's sense. Assumes fields in range.
+-- The fresh machine of a file: by either method its threads, nodes and requests and how long its arrays are; of CC-Synch that it is sound, and fresh in the
+-- invariant's sense. Assumes fields in range.
 use Prim.Native.Nat.{ℕ, zero, suc, _+_, _*_, _≤_, _<_}
 use native.Mathlib.Omega.{arith}
 use native.Mathlib.Nat.{zero-add}
@@ -17,6 +18,8 @@ use Rattle.bench_file.specs.Bytes.{RequestInRange, RowInRange, InRange}
 use Rattle.object.proofs.Each.{each-getD}
 use Rattle.object.proofs.Within.{within-range}
 use Rattle.bench_file.proofs.RoundTrip.{capacity-range, request-known}
+use Rattle.machine.specs.declared.Method.{Method}
+use Rattle.machine.specs.declared.Method.the-variants.{CcSynch}
 use Rattle.machine.specs.Sizes.{mostCalls, mostNodes}
 use Rattle.state.specs.declared.Slot.{Slot}
 use Rattle.state.specs.Range.{slotInRange, rowsInRange, threadInRange, nodeInRange}
@@ -30,7 +33,7 @@ use Rattle.step.proofs.Soundness.{Sound}
 use Rattle.invariant.specs.View.{viewOf}
 use Rattle.invariant.proofs.Start.{Fresh}
 use Rattle.history.specs.Entries.{threadId}
-use Rattle.claims.specs.Entries.{filled, slotsOf, rowsOf, startOf}
+use Rattle.claims.specs.Entries.{filled, slotsOf, rowsOf, startBy, startOf}
 use Rattle.claims.specs.Claims.{askedBy}
 use Rattle.claims.proofs.Filled.{length-filled, filled-at}
 
@@ -58,65 +61,72 @@ slot-at kind (row ∷ rows) (suc t) q e h =
     rw (next, getD-append-add) (slot-at kind rows t q (e .1) h)
 
 module _ (f : Fields) (fits : InRange f) where
-  -- the requests of thread t's row, and past its end the request of an empty place
-  pub requests-start : (t q : ℕ) → q < 16 → getD (startOf f .requests) (16 * t + q) zeroSlot .request ≡ askedBy f (record { thread = threadId t; request = q })
-  requests-start t q h = rw filled-at (slot-at (f .head .object) (f .rows) t q (fits .rows) h)
-
   few : length (map length (f .rows)) ≤ 16
   few = rw length-map (omega (arith, fits .threads, fits .head .n))
 
-  pub thread-start : (u : ℕ) → u < f .head .n → getD (startOf f .threads) u zeroThread ≡ freshThread u (length (getD (f .rows) u []))
+  -- a row of the file, and none has more than 16 requests
+  pub row-fits : (t : ℕ) → t < f .head .n → RowInRange (f .head .object) (getD (f .rows) t [])
+  row-fits t h = each-getD (RowInRange (f .head .object)) (f .rows) t [] (fits .rows) (omega (arith, fits .threads))
+
+  pub row-few : (t : ℕ) → t < f .head .n → length (getD (f .rows) t []) ≤ 16
+  row-few t h = row-fits t h .count
+
+module _ (m : Method) (f : Fields) (fits : InRange f) where
+  -- the requests of thread t's row, and past its end the request of an empty place
+  pub requests-start : (t q : ℕ) → q < 16 → getD (startBy m f .requests) (16 * t + q) zeroSlot .request ≡ askedBy f (record { thread = threadId t; request = q })
+  requests-start t q h = rw filled-at (slot-at (f .head .object) (f .rows) t q (fits .rows) h)
+
+  pub thread-start : (u : ℕ) → u < f .head .n → getD (startBy m f .threads) u zeroThread ≡ freshThread u (length (getD (f .rows) u []))
   thread-start u h =
-      fresh-at 0 (filled 16 0 (map length (f .rows))) u zeroThread (rw (length-filled 0 16 (map length (f .rows)) few) (omega (arith, fits .head .n)))
+      fresh-at 0 (filled 16 0 (map length (f .rows))) u zeroThread (rw (length-filled 0 16 (map length (f .rows)) (few f fits)) (omega (arith, fits .head .n)))
       ∙ rw (zero-add, filled-at) (ap (freshThread u) (List·getD-map length (f .rows) u []))
 
-  node-start : (m : ℕ) → m < mostNodes → getD (startOf f .nodes) m zeroNode ≡ freshNode
-  node-start m h = getD-replicate mostNodes m freshNode zeroNode h
+  pub node-start : (i : ℕ) → i < mostNodes → getD (startBy m f .nodes) i zeroNode ≡ freshNode
+  node-start i h = getD-replicate mostNodes i freshNode zeroNode h
 
-  pub fresh-start : Fresh (f .head .n) (viewOf (startOf f))
-  fresh-start = record {
-    line = λ u h. rw (thread-start u h);
-    own = λ u h. rw (thread-start u h);
-    tail = refl;
-    node = refl;
-  }
-
-  shaped-start : Shaped (startOf f)
+  pub shaped-start : Shaped (startBy m f)
   shaped-start = record {
-    threads = length-fresh 0 (filled 16 0 (map length (f .rows))) ∙ length-filled 0 16 (map length (f .rows)) few;
+    threads = length-fresh 0 (filled 16 0 (map length (f .rows))) ∙ length-filled 0 16 (map length (f .rows)) (few f fits);
     nodes = refl;
     requests = length-filled zeroSlot mostCalls (rowsOf (f .rows)) (rw (length-rows (f .head .object) (f .rows) (fits .rows)) (omega (arith, fits .threads, fits .head .n)));
     copies = refl;
     items = refl;
   }
 
-  row-fits : (t : ℕ) → t < f .head .n → RowInRange (f .head .object) (getD (f .rows) t [])
-  row-fits t h = each-getD (RowInRange (f .head .object)) (f .rows) t [] (fits .rows) (omega (arith, fits .threads))
+-- of CC-Synch
+module _ (f : Fields) (fits : InRange f) where
+  pub fresh-start : Fresh (f .head .n) (viewOf (startOf f))
+  fresh-start = record {
+    line = λ u h. rw (thread-start CcSynch f fits u h);
+    own = λ u h. rw (thread-start CcSynch f fits u h);
+    tail = refl;
+    node = refl;
+  }
 
   -- every thread, every node and every row of requests is in range
   threads-fit : every (threadInRange (f .head .n) (f .head .h)) (take (f .head .n) (startOf f .threads)) ≡ true
   threads-fit =
       every-first (threadInRange (f .head .n) (f .head .h)) zeroThread (f .head .n) (startOf f .threads) (λ u h.
-      rw (thread-start u h)
+      rw (thread-start CcSynch f fits u h)
       (let null : NodeOrNull (f .head .n) 255 = nowhere refl in
-      thread-iff (f .head .n) (f .head .h) (freshThread u (length (getD (f .rows) u []))) .1 (search (arith, row-fits u h))))
+      thread-iff (f .head .n) (f .head .h) (freshThread u (length (getD (f .rows) u []))) .1 (search (arith, row-fits f fits u h))))
 
   nodes-fit : every (nodeInRange (f .head .object) (f .head .capacity) (f .head .n)) (take (f .head .n + 1) (startOf f .nodes)) ≡ true
   nodes-fit =
       every-first (nodeInRange (f .head .object) (f .head .capacity) (f .head .n)) zeroNode (f .head .n + 1) (startOf f .nodes) (λ m h.
-      rw (node-start m (omega (arith, fits .head .n))) (or-true (leb 255 (f .head .n))))
+      rw (node-start CcSynch f fits m (omega (arith, fits .head .n))) (or-true (leb 255 (f .head .n))))
 
   rows-fit : rowsInRange (f .head .object) (startOf f .requests) 0 (take (f .head .n) (startOf f .threads)) ≡ true
   rows-fit =
       rows-first (f .head .object) (startOf f .requests) zeroThread 0 (f .head .n) (startOf f .threads) (λ t h.
-      rw (zero-add, thread-start t h)
+      rw (zero-add, thread-start CcSynch f fits t h)
       (every-first (slotInRange (f .head .object)) zeroSlot (length (getD (f .rows) t [])) (drop (16 * t) (startOf f .requests)) (λ q k.
-      rw (getD-drop, requests-start t q (omega (arith, row-fits t h .count)))
-      (request-known (f .head .object) _ (each-getD (RequestInRange (f .head .object)) (getD (f .rows) t []) q (Put 0) (row-fits t h .requests) k)))))
+      rw (getD-drop, requests-start CcSynch f fits t q (omega (arith, row-few f fits t h)))
+      (request-known (f .head .object) _ (each-getD (RequestInRange (f .head .object)) (getD (f .rows) t []) q (Put 0) (row-fits f fits t h .requests) k)))))
 
   pub sound-start : Sound (startOf f)
   sound-start = record {
-    shape = shaped-start;
+    shape = shaped-start CcSynch f fits;
     range =
         let capacity = within-range _ _ _ .1 (capacity-range (f .head .object) (f .head .capacity) .1 (fits .head .capacity)) in
         rw (within-range 1 (f .head .n) 16 .1 (fits .head .n), within-range 1 (f .head .h) 255 .1 (fits .head .h), capacity, leb·zero (f .head .capacity), leb·zero (f .head .n), threads-fit, nodes-fit, rows-fit);

@@ -1,37 +1,39 @@
--- Demand 3, for all fields in range and for every accepted file, at every cut of its schedule. Assumes nothing else.
+-- Demand 3 of CC-Synch, for all fields in range and for every accepted file, at every cut of its schedule. Assumes nothing else.
 use Prim.Native.Nat.{ℕ, _<_}
 use native.Mathlib.Omega.{arith}
-use mathlib.Core.Path.{_≡_, refl, sym, ap, _∙_}
-use mathlib.Core.Bool.{false}
-use mathlib.Core.List.{List, [], map, reverse, reverse-reverse}
+use mathlib.Core.Path.{_≡_, refl, ap}
+use mathlib.Core.List.{List, [], _∷_, reverse}
 use lib.ListN.{length, take}
 use lib.Seq.{take-length}
-use Rattle.machine.specs.declared.Thread.{Thread}
 use Rattle.bench_file.specs.Layout.{Fields, accepted, judgeOf}
 use Rattle.object.specs.Each.{Each}
 use Rattle.bench_file.specs.Bytes.{Byte, InRange}
 use Rattle.bench_file.proofs.RoundTrip.{accepted-in-range}
+use Rattle.machine.specs.declared.Method.the-variants.{CcSynch}
+use Rattle.machine.specs.declared.Thread.{Thread}
+use Rattle.machine.specs.declared.ThreadId.{ThreadId}
+use Rattle.state.specs.declared.State.{State}
+use Rattle.step.specs.Entry.{entered}
+use Rattle.step.specs.Step.{stepOf}
+use Rattle.step.specs.Steps.{stepsOf}
 use Rattle.invariant.specs.Ledger.{freshLedger}
 use Rattle.invariant.specs.View.{viewOf}
 use Rattle.invariant.proofs.Data.{data-fresh}
 use Rattle.invariant.proofs.Remote.{remote-fresh}
 use Rattle.invariant.proofs.Start.{control-fresh}
-use Rattle.history.specs.Entries.{Entry, happened}
-use Rattle.claims.specs.Entries.{startOf, stateAfter, entriesOf, historyOf}
-use Rattle.claims.specs.Claims.{afterReturn, Claimed, Demand3Of}
-use Rattle.history.proofs.Calls.{calls-fresh}
+use Rattle.history.specs.Entries.{Entry}
+use Rattle.claims.specs.Entries.{entryOf, startOf, stateAfter, entriesOf, historyOf}
+use Rattle.claims.specs.Claims.{Claimed, Demand3Of}
+use Rattle.claims.proofs.Chronicle.{asks, chronicle-fresh}
 use Rattle.claims.proofs.CopiesSaid.{copies-fresh}
-use Rattle.claims.proofs.Cut.{entries-named, stopped, cut-in-range}
-use Rattle.claims.proofs.Parts.{claim}
-use Rattle.claims.proofs.Layers.{Layers, Bounded, asks, stays, layers-next}
-use Rattle.claims.proofs.Left.{closed}
-use Rattle.claims.proofs.Numbered.{began-there, returned-there}
-use Rattle.claims.proofs.Run.{Going, run-keeps, run-steps}
-use Rattle.claims.proofs.Start.{fresh-start, thread-start}
-use Rattle.history.proofs.Swaps.{swaps-fresh}
+use Rattle.claims.proofs.Counted.{next-fits}
+use Rattle.claims.proofs.Cut.{Always, always, cut-in-range}
+use Rattle.claims.proofs.Demand.{demand-3-from}
+use Rattle.claims.proofs.Layers.{Layers, Bounded, chronicled, stays, layers-next}
+use Rattle.claims.proofs.Run.{Going, going-start, goes-on, run-keeps}
 use Rattle.claims.proofs.Seen.{phaseOf, seenOf, positionsOf}
-use Rattle.history.proofs.Times.{times-fresh}
-use Rattle.history.proofs.Turns.{turns-fresh}
+use Rattle.claims.proofs.Start.{fresh-start, sound-start, thread-start}
+use Rattle.claims.proofs.Steps.{through, one-step, steps-fold}
 
 module _ (f : Fields) (fits : InRange f) where
   -- the fresh machine has the invariant
@@ -40,56 +42,49 @@ module _ (f : Fields) (fits : InRange f) where
       let n = f .head .n in
       let v = viewOf (startOf f) in
       let fresh = fresh-start f fits in
-      let idle : (u : ℕ) → u < n → phaseOf (v .thread u .line) ≡ 0 = λ u b. ap phaseOf (fresh .line u b) in
-      let none : (u : ℕ) → u < n → v .thread u .begun ≡ 0 = λ u b. ap (λ (th : Thread). th .begun) (thread-start f fits u b) in
       record {
         ledger = freshLedger n;
         cost = λ u. 0;
         answers = [];
+        sound = sound-start f fits;
         control = control-fresh n (f .head .h) v fresh;
         remote = remote-fresh (fresh .line);
         object = data-fresh n (asks f) (f .head .object) (f .head .capacity) v (fresh .line);
-        swaps = swaps-fresh n (seenOf v) (positionsOf (freshLedger n)) idle none refl refl;
-        turns = turns-fresh n (f .head .h) (seenOf v) (positionsOf (freshLedger n)) idle;
-        calls = calls-fresh Bounded n (seenOf v) (positionsOf (freshLedger n)) (λ u. 0) idle;
-        times = times-fresh n (seenOf v) (positionsOf (freshLedger n)) none refl;
+        chronicle =
+            chronicle-fresh Bounded f (seenOf v) (positionsOf (freshLedger n)) (λ u. 0) (λ u b. ap phaseOf (fresh .line u b))
+            (λ u b. ap (λ (th : Thread). th .begun) (thread-start CcSynch f fits u b)) refl refl;
         copies = copies-fresh f;
         said = tt;
-        rows = λ u b. ap (λ (th : Thread). th .count) (thread-start f fits u b);
-        answered = refl;
-        asked = refl;
-        by-combiner = refl;
-        servers = tt;
-        blanks = refl;
-        over = refl;
+        rows = λ u b. ap (λ (th : Thread). th .count) (thread-start CcSynch f fits u b);
       }
 
-  -- and the machine after j entries has it
-  pub run-layers : (j : ℕ) → Going f (stateAfter (startOf f) (take j (f .schedule))) (reverse (take j (entriesOf f)))
-      × Layers f (stateAfter (startOf f) (take j (f .schedule))) (reverse (take j (entriesOf f)))
-  run-layers = run-keeps f fits (Layers f) layers-start (stays f fits) (layers-next f fits)
+  -- every entry keeps it
+  layers-kept : (s : State) (past : List Entry) (t : ThreadId) → t .0 < s .n → length past < 32768 → Always s t → Going CcSynch f s past → Layers f s past
+      → Layers f (entered s t) (entryOf s t ∷ past)
+  layers-kept s past t below short ok going now = layers-next f fits s past t below going now short
 
-  -- no entry is of a call that has returned
-  over : (j : ℕ) → happened afterReturn (reverse (take j (entriesOf f))) ≡ false
-  over j = run-layers j .1 .over
+  -- and the machine after j entries has it
+  pub run-layers : (j : ℕ) → Going CcSynch f (stateAfter CcSynch (startOf f) (take j (f .schedule))) (reverse (take j (entriesOf f)))
+      × Layers f (stateAfter CcSynch (startOf f) (take j (f .schedule))) (reverse (take j (entriesOf f)))
+  run-layers j = run-keeps CcSynch f fits Always (Layers f) layers-start layers-kept j (always (startOf f) (take j (f .schedule)))
+
+  -- no step is refused
+  goes : (s : State) (past : List Entry) (t : ThreadId) → t .0 < f .head .n → length past < 32768 → Going CcSynch f s past × Layers f s past
+      → stepOf s t ≡ through (entered s t)
+  goes s past t below short now =
+      let below-n : t .0 < s .n = omega (arith, now .0 .n) in
+      one-step s t (now .1 .sound) below-n (stays f fits s past t below-n (now .0) (now .1)) (next-fits CcSynch s past t (now .0 .counted) short)
+
+  run-steps : (j : ℕ) → stepsOf (startOf f) (take j (f .schedule)) ≡ through (stateAfter CcSynch (startOf f) (take j (f .schedule)))
+  run-steps j =
+      let fits′ = cut-in-range f j fits in
+      steps-fold (f .head .n) 32768 _ goes (goes-on CcSynch f fits Always (Layers f) layers-start layers-kept) (startOf f) [] (take j (f .schedule))
+      (fits′ .schedule) (omega (arith, fits′ .entries)) (going-start CcSynch f, layers-start)
 
   pub demand-3 : Demand3Of f
   demand-3 j =
       let kept = run-layers j in
-      record {
-        claim = claim f fits _ _ (kept .0) (kept .1);
-        steps = run-steps f fits (Layers f) layers-start (stays f fits) (layers-next f fits) j;
-        counts = kept .0 .counted .counts;
-        closed = closed f _ _ (kept .0) (kept .1);
-        begun = λ t below. sym (kept .1 .swaps .begun (t .0) (omega (arith, kept .0 .n)));
-        entries =
-            ap (map (λ (e : Entry). e .thread .0)) (reverse-reverse (take j (entriesOf f)) ∙ sym (stopped f j))
-            ∙ entries-named (startOf f) (take j (f .schedule));
-        began-there = λ c. began-there f over c j;
-        returned-there = λ c. returned-there f over c j;
-        stopped = ap reverse (stopped f j);
-        cut-file = cut-in-range f j fits;
-      }
+      demand-3-from Bounded CcSynch f fits j (kept .0) (chronicled f _ _ (kept .0) (kept .1)) (run-steps j) tt
 
   -- after the last entry the claim is of the whole run
   pub claim-whole : Claimed f (historyOf f)

@@ -1,5 +1,5 @@
 -- What the accesses of a thread make of the copies of a state, and which of them are remote, is as said of accesses alone.
--- Assumes the thread below n, n at most 16, and the accesses inside the copies.
+-- Assumes, of CC-Synch, the thread below n, n at most 16, and the accesses inside the copies; of DSM-Synch nothing.
 use Prim.Native.Nat.{ℕ, _≤_, _<_}
 use mathlib.Core.Path.{_≡_, refl, ap, ap₂, _∙_}
 use mathlib.Core.Bool.{Bool, true, cond, not}
@@ -8,12 +8,13 @@ use lib.ListN.{length-set}
 use borrow.Author.Tests.{eq-eqb}
 use Rattle.object.specs.Each.{Each}
 use Rattle.object.proofs.Each.{each-map}
+use Rattle.machine.specs.declared.Method.the-variants.{CcSynch, DsmSynch}
 use Rattle.machine.specs.declared.ThreadId.{ThreadId}
 use Rattle.machine.specs.Accesses.{Access, Location, located}
-use Rattle.copies.specs.Remote.{hasCopyOf, copiesAfter, referred}
+use Rattle.copies.specs.Remote.{hasCopyOf, copiesAfter, referred, owns}
 use Rattle.copies.proofs.Holding.{Inside, copy-after}
 use Rattle.history.specs.Entries.{threadId}
-use Rattle.history.specs.Copies.{decides, copyAfter, remoteSaid, remoteMarks}
+use Rattle.history.specs.Copies.{decides, copyAfter, remoteSaid, remoteByOwner, remoteMarks}
 
 -- by copies that agree on every location the same accesses are remote
 pub said-same : (t : ThreadId) (f g : Location → Bool) (accesses : List Access) → ((l : Location) → f l ≡ g l)
@@ -39,9 +40,14 @@ module _ (n t : ℕ) (below : t < n) (few : n ≤ 16) where
 
   -- so the marks by the copies of a state are what the copies before the accesses say
   pub remote-marks : (copies : List ℕ) (accesses : List Access) → Each (Inside copies) accesses
-      → remoteMarks n t copies accesses ≡ remoteSaid (threadId t) (λ l. hasCopyOf copies t l) accesses
+      → remoteMarks CcSynch n t copies accesses ≡ remoteSaid (threadId t) (λ l. hasCopyOf copies t l) accesses
   remote-marks copies [] inside = refl
   remote-marks copies (a ∷ rest) inside =
       ap (λ (marks : List Bool). not (hasCopyOf copies t (located a)) ∷ marks)
       (remote-marks (copiesAfter n t a copies) rest (inside-after copies a rest (inside .1))
       ∙ said-same (threadId t) _ _ rest (λ l. copy-after n t copies below few a (inside .0) t below l ∙ rw (eq-eqb t t refl)))
+
+-- and by DSM-Synch they are what the owners of the locations say
+pub owner-marks : (n t : ℕ) (copies : List ℕ) (accesses : List Access) → remoteMarks DsmSynch n t copies accesses ≡ remoteByOwner (threadId t) accesses
+owner-marks n t copies [] = refl
+owner-marks n t copies (a ∷ rest) = ap (λ (marks : List Bool). not (owns t (located a)) ∷ marks) (owner-marks n t copies rest)

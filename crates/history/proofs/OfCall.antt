@@ -1,16 +1,17 @@
--- Which call an entry is of, and what an entry of another call leaves as it was. Assumes nothing.
+-- Which call an entry is of, what an entry of another call leaves as it was, and what no Swap gives no call has got. Assumes nothing.
 use Prim.Native.Nat.{ℕ, _+_}
 use native.Mathlib.Nat.{zero-add}
 use mathlib.Core.Path.{_≡_, refl, sym, ap₂, subst, _∙_}
-use mathlib.Core.Bool.{true, false, cond, not, _&&_, _||_, false≢true, not-eq-not, and-false, and-eq-true-iff}
-use mathlib.Core.List.{List, _∷_}
+use mathlib.Core.Bool.{Bool, true, false, cond, not, _&&_, _||_, false≢true, not-eq-not, and-false, and-eq-true-iff}
+use mathlib.Core.List.{List, [], _∷_}
 use lib.ListN.{length}
 use lib.Dec.{eqb}
 use borrow.Author.Tests.{eq-eqb, eqb-true}
+use Rattle.object.proofs.Choice.{either, both-fail}
 use Rattle.machine.specs.declared.Event.{Event}
-use Rattle.machine.specs.declared.Event.the-variants.{Blank, TurnBegins, Returns}
-use Rattle.history.specs.Entries.{Entry, threadId, is, Is, howMany, remoteIn}
-use Rattle.history.specs.Terms.{Call, callOf, same, isOf, does, turnOfCall, costOf, returned, combined, returns, numberOf}
+use Rattle.machine.specs.declared.Event.the-variants.{Blank, Swaps, TurnBegins, Returns}
+use Rattle.history.specs.Entries.{Entry, threadId, happened, is, Is, howMany, remoteIn}
+use Rattle.history.specs.Terms.{Call, callOf, same, isOf, does, turnOfCall, costOf, returned, combined, returns, numberOf, givesOwn, gaveOther}
 use Rattle.history.proofs.Told.{is-so, is-not}
 
 -- request q of thread t
@@ -78,3 +79,10 @@ module _ (e : Entry) (past : List Entry) where
 
   pub added : (c : Call) → isOf c e past ≡ true → Added c
   added c p = record { cost = rw p; returned = rw p; combined = rw p; turn = rw p; returns = rw p; number = λ event. rw p }
+
+-- where no Swap gives a node of its own thread, none has given a call the other one
+pub never-other : (c : Call) (past : List Entry) → happened givesOwn past ≡ false → gaveOther c past ≡ false
+never-other c [] none = refl
+never-other c (e ∷ past) none =
+    let (here, before) = both-fail (givesOwn e past) (happened givesOwn past) none in
+    either (λ (gave : Bool). gave ≡ false) (does Swaps c e past) (λ swaps. rw here) (λ other. never-other c past before)

@@ -33,7 +33,7 @@ module _ (entries : List Entry) where
   -- what is so once an entry passes a test, and not before: the number of that entry is how long it was not so
   module _ (test : Entry → List Entry → Bool) (So : List Entry → Type 0) (At : ℕ → Type 0)
       (never : So [] → ⊥) (before : (e : Entry) (past : List Entry) → test e past ≡ false → So (e ∷ past) → So past)
-      (here : (j : ℕ) (e : Entry) → after (suc j) ≡ e ∷ after j → test e (after j) ≡ true → At j) where
+      (here : (j : ℕ) (e : Entry) → after (suc j) ≡ e ∷ after j → So (e ∷ after j) → test e (after j) ≡ true → At j) where
     abbrev number : List Entry → ℕ
     number = numberWhere test
 
@@ -44,15 +44,16 @@ module _ (entries : List Entry) where
         (λ more.
         let grown = grows-from entries [] j more in
         let e = grown .entry in
+        let now = subst So (grown .is) so in
         by-test (test e (after j))
         (λ yes.
         let is : number (after (suc j)) ≡ j =
         ap number (grown .is) ∙ ap (λ (b : Bool). cond b (length (after j)) (number (after j))) yes ∙ length-reverse (take j entries) ∙ length-take-le j entries (omega arith) in
-        subst At (sym is) (here j e (grown .is) yes))
+        subst At (sym is) (here j e (grown .is) now yes))
         (λ not-yet.
         let is : number (after (suc j)) ≡ number (after j) =
         ap number (grown .is) ∙ ap (λ (b : Bool). cond b (length (after j)) (number (after j))) not-yet in
-        subst At (sym is) (at-number j (before e (after j) not-yet (subst So (grown .is) so)))))
+        subst At (sym is) (at-number j (before e (after j) not-yet now))))
         (λ all.
         let same = ap reverse (take-all (suc j) entries (omega arith) ∙ sym (take-all j entries all)) in
         subst (λ (r : List Entry). At (number r)) (sym same) (at-number j (subst So same so)))

@@ -1,5 +1,5 @@
 -- Sums over the entries: an event gives one to a list in order of time, and what is counted has 32 bits.
--- Assumes, where numbers fit, at most 32,768 entries with at most two remote references each.
+-- Assumes, where numbers fit, at most 32,768 entries with at most three remote references each.
 use Prim.Native.Nat.{ℕ, _*_, _≤_, _<_, _^_}
 use native.Mathlib.Omega.{arith}
 use mathlib.Core.Path.{_≡_, refl}
@@ -26,13 +26,13 @@ one-each event gives [] = refl
 one-each event gives (e ∷ past) =
     omega (arith, length-more (is event e) (inOrder (λ e past. cond (is event e) (gives e past ∷ []) []) past) (gives e past), one-each event gives past)
 
--- an entry that makes at most two remote references
+-- an entry that makes at most three remote references, as many as any line has accesses
 abbrev pub Few : Entry → Type 0
-Few e = remoteIn (e .remote) ≤ 2
+Few e = remoteIn (e .remote) ≤ 3
 
--- a number that is at most 2 at each such entry
-pub sum-most : (number : Entry → List Entry → ℕ) → ((e : Entry) (past : List Entry) → Few e → number e past ≤ 2)
-    → (history : List Entry) → Each Few history → sumOver number history ≤ 2 * length history
+-- a number that is at most 3 at each such entry
+pub sum-most : (number : Entry → List Entry → ℕ) → ((e : Entry) (past : List Entry) → Few e → number e past ≤ 3)
+    → (history : List Entry) → Each Few history → sumOver number history ≤ 3 * length history
 sum-most number small [] few = omega arith
 sum-most number small (e ∷ past) few = omega (arith, small e past (few .0), sum-most number small past (few .1))
 
@@ -42,7 +42,7 @@ tests-few test [] = omega arith
 tests-few test (e ∷ past) = omega (arith, at-most-one (test e), tests-few test past)
 
 module _ (history : List Entry) (few : Each Few history) (short : length history ≤ 32768) where
-  pub fits : (number : Entry → List Entry → ℕ) → ((e : Entry) (past : List Entry) → Few e → number e past ≤ 2) → sumOver number history < 2 ^ 32
+  pub fits : (number : Entry → List Entry → ℕ) → ((e : Entry) (past : List Entry) → Few e → number e past ≤ 3) → sumOver number history < 2 ^ 32
   fits number small = omega (arith, sum-most number small history few)
 
   pub tests-fit : (test : Entry → Bool) → sumOver (λ e past. oneIf (test e)) history < 2 ^ 32
@@ -60,7 +60,7 @@ module _ (history : List Entry) (few : Each Few history) (short : length history
   pub cost-fits : (c : Call) → costOf c history < 2 ^ 32
   cost-fits c = fits (λ e past. cond (isOf c e past) (remoteIn (e .remote)) 0) (λ e past few. by-test (isOf c e past) few)
     where
-      by-test : {k : ℕ} (test : Bool) → k ≤ 2 → cond test k 0 ≤ 2
+      by-test : {k : ℕ} (test : Bool) → k ≤ 3 → cond test k 0 ≤ 3
       by-test true h = h
       by-test false h = omega arith
 

@@ -1,12 +1,14 @@
--- Which accesses of a history are remote, by the accesses alone, one after the other: document 01, 'Remote references'; and by the copies of a state.
+-- Which accesses of a history are remote, by the accesses alone, one after the other: document 01, 'Remote references', and document 02, No. 6; and by a state.
 use Prim.Native.Nat.{ℕ}
 use mathlib.Core.Path.{_≡_}
 use mathlib.Core.Bool.{Bool, true, false, cond, not, _&&_, _||_}
-use mathlib.Core.List.{List, [], _∷_}
+use mathlib.Core.List.{List, [], _∷_, map}
 use lib.Dec.{eqb}
+use Rattle.machine.specs.declared.Method.{Method}
+use Rattle.machine.specs.declared.Method.the-variants.{CcSynch, DsmSynch}
 use Rattle.machine.specs.declared.ThreadId.{ThreadId}
 use Rattle.machine.specs.Accesses.{Access, Location, sameLocation, located}
-use Rattle.copies.specs.Remote.{hasCopyOf, ends, copiesAfter}
+use Rattle.copies.specs.Remote.{ends, owns, atHand, leftCopies}
 use Rattle.history.specs.Entries.{Entry}
 
 -- whether an access of thread u decides if thread t has a copy of a location: by an access of its own it has, by another's write or Swap it has not
@@ -28,11 +30,20 @@ abbrev pub remoteSaid : ThreadId → (Location → Bool) → List Access → Lis
 remoteSaid t valid [] = []
 remoteSaid t valid (access ∷ accesses) = not (valid (located access)) ∷ remoteSaid t (λ l. cond (decides t l t access) true (valid l)) accesses
 
-abbrev pub RemoteAsSaid : List Entry → Type 0
-RemoteAsSaid [] = Unit
-RemoteAsSaid (e ∷ past) = (e .remote ≡ remoteSaid (e .thread) (λ l. validCopy (e .thread) l past) (e .accesses)) × RemoteAsSaid past
+-- the same of DSM-Synch, which has no copies: each exactly if t is not the owner. It is the owner rule again; which accesses are made is `as-tabled` of dsm_synch
+abbrev pub remoteByOwner : ThreadId → List Access → List Bool
+remoteByOwner t = map (λ access. not (owns (t .0) (located access)))
 
--- the same by the copies of a state, of n threads: an access is remote if its thread has no valid copy of the location
-abbrev pub remoteMarks : ℕ → ℕ → List ℕ → List Access → List Bool
-remoteMarks n t copies [] = []
-remoteMarks n t copies (access ∷ accesses) = not (hasCopyOf copies t (located access)) ∷ remoteMarks n t (copiesAfter n t access copies) accesses
+-- by the method, of an entry with its past
+abbrev pub marksSaid : Method → Entry → List Entry → List Bool
+marksSaid CcSynch e past = remoteSaid (e .thread) (λ l. validCopy (e .thread) l past) (e .accesses)
+marksSaid DsmSynch e past = remoteByOwner (e .thread) (e .accesses)
+
+abbrev pub RemoteAsSaid : Method → List Entry → Type 0
+RemoteAsSaid m [] = Unit
+RemoteAsSaid m (e ∷ past) = (e .remote ≡ marksSaid m e past) × RemoteAsSaid m past
+
+-- the same by a state of n threads, with its copies: an access is remote if its thread does not have the location at hand
+abbrev pub remoteMarks : Method → ℕ → ℕ → List ℕ → List Access → List Bool
+remoteMarks m n t copies [] = []
+remoteMarks m n t copies (access ∷ accesses) = not (atHand m copies t (located access)) ∷ remoteMarks m n t (leftCopies m n t access copies) accesses

@@ -23,6 +23,8 @@ pub record Entry : Type 0 where
   pub remote : List Bool
   -- the node that a Swap assigns to its call, or whose request is applied; null where the entry is neither
   pub node : NodeId
+  -- the node that a Swap gives, null where it finds Tail null; null where the entry is no Swap
+  pub given : NodeId
   -- the req that is applied, and the object's answer to it; empty where none is applied
   pub req : Announced
   pub answer : RetVal

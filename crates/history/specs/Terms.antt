@@ -1,7 +1,7 @@
 -- The terms of demand 3 as document 01 has them, each by the entries of a history alone: calls, Swap order, turns, servings, remote references, when calls began
 -- and returned, records, counts.
 -- They go by what an entry is, and by no line's number, so they are the same for every method; which line is which: the last column of `printedLine` in
--- cc_lines/specs/Lines.antt.
+-- cc_lines/specs/Lines.antt, and `eventIn` in dsm_synch/specs/Lines.antt.
 use Prim.Native.Nat.{ℕ, _-_}
 use mathlib.Core.Bool.{Bool, false, cond, not, _&&_, _||_}
 use mathlib.Core.List.{List, [], _∷_, _++_, map}
@@ -17,6 +17,8 @@ use Rattle.machine.specs.declared.RetVal.{RetVal}
 use Rattle.machine.specs.declared.RetVal.the-variants.{NoAnswer, Answered}
 use Rattle.machine.specs.declared.Event.{Event}
 use Rattle.machine.specs.declared.Event.the-variants.{Blank, CallBegins, Swaps, TurnBegins, Applies, TurnEnds, Returns, Spins}
+use Rattle.machine.specs.Accesses.{whole}
+use Rattle.copies.specs.Remote.{owns}
 use Rattle.state.specs.declared.Counts.{Counts}
 use Rattle.step.specs.Entry.{oneIf}
 use Rattle.history.specs.Entries.{Entry, threadId, sumOver, happened, inOrder, latest, is, isBy, howMany, remoteIn}
@@ -100,6 +102,13 @@ servedIn turn = sumOver (λ e past. oneIf (is Applies e && eqb (turnOf (e .threa
 -- a call's remote references: the remote accesses of its entries, from its first on
 abbrev pub costOf : Call → List Entry → ℕ
 costOf c = sumOver (λ e past. cond (isOf c e past) (remoteIn (e .remote)) 0)
+
+-- whether a Swap gives a node of its own thread, and whether that is another than the one that it puts in: nodes 2i and 2i + 1 are thread i's, in DSM-Synch
+abbrev pub givesOwn : Entry → List Entry → Bool
+givesOwn e past = is Swaps e && owns (e .thread .0) (whole (e .given))
+
+abbrev pub gaveOther : Call → List Entry → Bool
+gaveOther c = latest false (does Swaps c) (λ e past. givesOwn e past && not (eqb (e .given .0) (e .node .0)))
 
 -- a call has returned once an entry of it returns; it combined if it began a turn
 abbrev pub returned : Call → List Entry → Bool

@@ -5,8 +5,8 @@ use native.Mathlib.Omega.{arith}
 use mathlib.Core.Path.{_≡_, refl, sym, ap, _∙_}
 use mathlib.Core.Bool.{Bool, true, false, _&&_, _||_}
 use mathlib.Core.List.{List, [], _∷_, _++_}
-use lib.ListN.{length, getD, take, length-append, List·getD-append}
-use lib.Seq.{take-append-le, getD-at}
+use lib.ListN.{length, getD, length-append, List·getD-append}
+use lib.Seq.{getD-at}
 use lib.Dec.{T, leb, eqb}
 use borrow.Author.Tests.{lt-leb, le-ltb, ne-eqb, eqb-true}
 use Rattle.object.specs.declared.Kind.{Kind}
@@ -15,36 +15,31 @@ use Rattle.object.specs.declared.Request.the-variants.{Put}
 use Rattle.object.specs.declared.Answer.{Answer}
 use Rattle.object.specs.declared.Answer.the-variants.{Empty}
 use Rattle.object.specs.declared.Object.{Object}
-use Rattle.object.specs.Plain.{fresh, answersFrom}
-use Rattle.object.specs.Apply.{knows, freshObject, objectInRange}
-use Rattle.object.proofs.Plainly.{applies-plainly}
+use Rattle.object.specs.Apply.{freshObject, objectInRange}
 use Rattle.machine.specs.declared.Announced.the-variants.{Asked}
 use Rattle.machine.specs.declared.RetVal.the-variants.{Answered}
 use Rattle.machine.specs.declared.Node.{Node}
 use Rattle.machine.specs.declared.Thread.{Thread}
 use Rattle.machine.specs.declared.Event.the-variants.{Swaps, Applies}
-use Rattle.machine.specs.Fields.{isNull}
+use Rattle.machine.specs.Fields.{isNull, isEmptyReq, isEmptyRet}
 use Rattle.machine.specs.Events.{sameEvent}
 use Rattle.cc_lines.specs.Lines.{Line, rowOf, L0, L1, L2, L3, L4, L5, L6, L7, L8, L9, L10, L11, L12, L13, L14, L15, L16, L17, L18, L19, L20, L21}
-use Rattle.cc_synch.specs.Effect.{isEmptyReq, isEmptyRet, usesEmpty, takesOut}
+use Rattle.cc_synch.specs.Effect.{usesEmpty, takesOut}
 use Rattle.state.specs.Range.{reqInRange}
-use Rattle.step.specs.Numbers.{number, standsAt}
+use Rattle.step.specs.Numbers.{number}
+use Rattle.machine.specs.Lines.{standsAt}
 use Rattle.step.proofs.Numbers.{number-most, by-last}
 use Rattle.invariant.specs.Stages.{stageOf, queued}
 use Rattle.invariant.specs.Ledger.{Ledger, freshLedger, upd, noted}
 use Rattle.invariant.specs.View.{View, goal, does, Does}
 use Rattle.invariant.specs.Control.{Control}
-use Rattle.invariant.specs.Data.{plainAfter, openRequest, appliedBy, grown, CallData, Data}
-use Rattle.invariant.proofs.Feeding.{answers-next, after-next}
-use Rattle.object.proofs.Choice.{by-equal}
+use Rattle.invariant.specs.Serving.{openRequest, grown}
+use Rattle.invariant.specs.Data.{appliedBy, CallData, Data}
+use Rattle.invariant.proofs.Serving.{field-left, fed-fresh, fed-more, fed-next, ret-next}
+use Rattle.object.proofs.Choice.{by-equal, unless}
 use Rattle.invariant.proofs.Upd.{upd-same, upd-other}
 use Rattle.invariant.proofs.Seats.{node-bound, known}
 use Rattle.invariant.proofs.Threads.{inQueue, Linked, node-cur, at-below, curs-apart, serving, last-points}
-
--- a second test that is made where the first passes
-unless : (a b : Bool) → (a ≡ true → b ≡ false) → (a && b) ≡ false
-unless true b f = f refl
-unless false b f = refl
 
 -- a thread stays in the queue, with its call and its node
 record Stays (th th′ : Thread) : Type 0 where
@@ -58,8 +53,7 @@ module _ {n h : ℕ} {v v′ : View} {t : ℕ} {l : Line} {request : Request} {a
   -- a field that the line leaves at its node, it leaves everywhere
   field-kept : {A : Type 0} (field : Node → A) → field (does v t l h request answer .node) ≡ field (v .node (goal v t l))
       → (m : ℕ) → field (v′ .node m) ≡ field (v .node m)
-  field-kept field e m =
-      by-equal m (goal v t l) (λ i. rw i (ap field (d .there) ∙ e)) (λ i. ap field (d .elsewhere m i))
+  field-kept field e = field-left field (goal v t l) (d .there) (d .elsewhere) e
 
   stays-others : (u : ℕ) → (u ≡ t → ⊥) → inQueue v′ u → Stays (v .thread u) (v′ .thread u)
   stays-others u other = rw (d .others u other) (λ q. record { queued = q; announced = λ a. a; cur = refl; begun = refl })
@@ -141,10 +135,8 @@ module _ {n h : ℕ} {v : View} {g : Ledger} (c : Control n h v g) {requests : �
   quiet {v′} d req ret s a at mine =
       rw (s, a, at) (record {
         swaps = now .swaps;
-        applied = now .applied;
         call = λ u below q. call-kept v′ u below (stays-all d mine u q) jobs refl (field-kept d (λ (x : Node). x .req) req _) (field-kept d (λ (x : Node). x .ret) ret _);
-        plain = now .plain;
-        object = now .object;
+        fed = now .fed;
       })
 
   -- line 5 puts the call's request at the last position
@@ -155,10 +147,8 @@ module _ {n h : ℕ} {v : View} {g : Ledger} (c : Control n h v g) {requests : �
       let mine = d .below in
       let swaps = now .swaps in
       let order = c .order .applied in
-      let first : take (g .a) (jobs ++ request ∷ []) ≡ take (g .a) jobs = take-append-le (g .a) jobs (request ∷ []) (omega arith) in
       record {
         swaps = rw length-append (omega arith);
-        applied = now .applied;
         call = λ u below. rw (upd-other (upd (g .at) t (g .s)) n (suc (g .s)) u (λ e. omega arith)) (by-equal u t
             (λ e. rw (e, d .mine, upd-same) (λ q. record {
               job = getD-at jobs request [] (Put 0) (g .s) swaps;
@@ -171,8 +161,7 @@ module _ {n h : ℕ} {v : View} {g : Ledger} (c : Control n h v g) {requests : �
             (List·getD-append jobs (request ∷ []) (Put 0) (g .at u) (omega (arith, at-below c u below (st .queued))))
             (field-kept d (λ (x : Node). x .req) refl _) (field-kept d (λ (x : Node). x .ret) refl _)
             )));
-        plain = rw first (now .plain);
-        object = rw first (now .object);
+        fed = fed-more (now .fed) (omega arith) request;
       }
 
   -- line 6 writes it into the node, which no other thread in the queue has
@@ -182,15 +171,13 @@ module _ {n h : ℕ} {v : View} {g : Ledger} (c : Control n h v g) {requests : �
       let f = now .call t (d .below) stood in
       record {
         swaps = now .swaps;
-        applied = now .applied;
         call = λ u below. by-equal u t
             (λ e. rw (e, d .mine, d .there) (λ q. record { job = f .job; asked = λ _. refl; replied = f .replied }))
             (λ other q.
             let st = stays-others d u other q in
             let same = d .elsewhere (v .thread u .cur .0) (λ e. other (curs-apart c u t below (d .below) (st .queued) stood e)) in
             call-kept v′ u below st jobs refl (ap (λ (x : Node). x .req) same) (ap (λ (x : Node). x .ret) same));
-        plain = now .plain;
-        object = now .object;
+        fed = now .fed;
       }
 
   -- line 16 answers the request after those applied, as the plain object does
@@ -199,29 +186,20 @@ module _ {n h : ℕ} {v : View} {g : Ledger} (c : Control n h v g) {requests : �
       → Data n requests kind capacity v′ (noted n t (v .thread t .own .0) g L16) jobs (answers ++ appliedBy kind capacity ob v t L16 .answer ∷ [])
       (appliedBy kind capacity ob v t L16 .object)
   serve {v′} {t} d range long known =
-      let job = getD jobs (g .a) (Put 0) in
-      let answer = appliedBy kind capacity ob v t L16 .answer in
       let s = serving c d refl in
       let w = s .who in
       let asks = served-asks d refl in
-      let more : g .a < length jobs = omega (arith, now .swaps, at-below c _ (w .below) (w .queued), w .at) in
-      let knows-job : knows kind job ≡ true = rw asks at known in
-      let plain = applies-plainly kind capacity ob job long .plain (rw range tt) (rw knows-job tt) in
       record {
         swaps = now .swaps;
-        applied = rw length-append (omega (arith, now .applied));
         call = λ u below q.
             let st = stays-all d (λ _. stays-itself d tt (omega arith) refl refl) u q in
-            call-after v′ u below st jobs refl (field-kept d (λ (x : Node). x .req) refl _) (answers ++ answer ∷ []) _
-            (λ i. by-equal (g .at u) (g .a)
-            (λ e. rw (node-cur c u below (st .queued) ∙ ap (g .node) e ∙ sym (s .node), d .there, e, getD-at answers answer [] Empty (g .a) (now .applied)))
-            (λ e. rw (
-              d .elsewhere (v .thread u .cur .0) (λ m.
-                  e (ap (g .at) (curs-apart c u _ below (w .below) (st .queued) (w .queued) (m ∙ s .node ∙ sym (w .node))) ∙ w .at)),
-              List·getD-append answers (answer ∷ []) Empty (g .at u) (omega (arith, now .applied)),
-            ) (now .call u below (st .queued) .replied (omega arith))));
-        plain = rw (asks, answers-next kind capacity fresh (g .a) jobs (Put 0) more, ← now .plain, ← now .object, plain);
-        object = rw (asks, after-next kind capacity fresh (g .a) jobs (Put 0) more, ← now .object, plain);
+            call-after v′ u below st jobs refl (field-kept d (λ (x : Node). x .req) refl _) _ _
+            (ret-next (now .fed) _ (g .at u)
+            (λ e. rw (node-cur c u below (st .queued) ∙ ap (g .node) e ∙ sym (s .node), d .there))
+            (λ e. ap (λ (x : Node). x .ret) (d .elsewhere (v .thread u .cur .0) (λ m.
+            e (ap (g .at) (curs-apart c u _ below (w .below) (st .queued) (w .queued) (m ∙ s .node ∙ sym (w .node))) ∙ w .at))))
+            (now .call u below (st .queued) .replied));
+        fed = fed-next (now .fed) (omega (arith, now .swaps, at-below c _ (w .below) (w .queued), w .at)) (record { range = range; places = long }) (rw asks at known) asks;
       }
 
   -- every line keeps the data invariant
@@ -255,11 +233,4 @@ module _ {n h : ℕ} {v : View} {g : Ledger} (c : Control n h v g) {requests : �
 -- the fresh machine: no Swap is done, and no thread is in the queue
 pub data-fresh : (n : ℕ) (requests : ℕ → ℕ → Request) (kind : Kind) (capacity : ℕ) (v : View) → ((u : ℕ) → u < n → v .thread u .line ≡ 0)
     → Data n requests kind capacity v (freshLedger n) [] [] freshObject
-unfolding answersFrom plainAfter
-data-fresh n requests kind capacity v idle = record {
-  swaps = refl;
-  applied = refl;
-  call = λ u below q. absurd (rw (idle u below) at q);
-  plain = refl;
-  object = refl;
-}
+data-fresh n requests kind capacity v idle = record { swaps = refl; call = λ u below q. absurd (rw (idle u below) at q); fed = fed-fresh kind capacity }

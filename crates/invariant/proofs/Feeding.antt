@@ -8,7 +8,7 @@ use Rattle.object.specs.declared.Kind.{Kind}
 use Rattle.object.specs.declared.Request.{Request}
 use Rattle.object.specs.declared.Answer.{Answer}
 use Rattle.object.specs.Plain.{Plain, plainStep, answersFrom}
-use Rattle.invariant.specs.Data.{plainAfter}
+use Rattle.invariant.specs.Serving.{plainAfter}
 
 module _ (kind : Kind) (capacity : ℕ) where
   -- the first answers are those to the first requests

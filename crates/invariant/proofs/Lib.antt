@@ -9,6 +9,7 @@ pub mod Noted
 pub mod OwnLine
 pub mod Remote
 pub mod Seats
+pub mod Serving
 pub mod Slots
 pub mod Stable
 pub mod Start

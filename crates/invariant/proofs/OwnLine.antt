@@ -17,7 +17,8 @@ use Rattle.cc_lines.specs.Lines.{Line, L0, L1, L2, L3, L4, L5, L6, L7, L8, L9, 
 use Rattle.cc_synch.specs.Effect.{goes}
 use Rattle.copies.specs.Remote.{hasCopyOf, Referred, referred}
 use Rattle.copies.proofs.References.{access-most}
-use Rattle.step.specs.Numbers.{number, standsAt}
+use Rattle.step.specs.Numbers.{number}
+use Rattle.machine.specs.Lines.{standsAt}
 use Rattle.step.proofs.Numbers.{at-most-one}
 use Rattle.invariant.specs.Stages.{w11, w12, c13, wait, combine, stageOf}
 use Rattle.invariant.specs.Ledger.{Ledger}

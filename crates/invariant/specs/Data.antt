@@ -1,9 +1,8 @@
 -- The invariant of requests, answers and the object: what holds of every open call, of the answers given and of the object after every entry.
-use Prim.Native.Nat.{ℕ, _-_, _<_}
+use Prim.Native.Nat.{ℕ, _<_}
 use mathlib.Core.Path.{_≡_}
-use mathlib.Core.Bool.{Bool, cond}
-use mathlib.Core.List.{List, [], _∷_, _++_}
-use lib.ListN.{length, getD, take}
+use mathlib.Core.List.{List}
+use lib.ListN.{length, getD}
 use lib.Dec.{T}
 use Rattle.object.specs.declared.Kind.{Kind}
 use Rattle.object.specs.declared.Request.{Request}
@@ -12,8 +11,6 @@ use Rattle.object.specs.declared.Answer.{Answer}
 use Rattle.object.specs.declared.Answer.the-variants.{Empty}
 use Rattle.object.specs.declared.Object.{Object}
 use Rattle.object.specs.declared.Applied.{Applied}
-use Rattle.object.specs.Plain.{Plain, fresh, plainStep, answersFrom}
-use Rattle.object.specs.Apply.{contents}
 use Rattle.machine.specs.declared.Announced.the-variants.{Asked}
 use Rattle.machine.specs.declared.RetVal.the-variants.{Answered}
 use Rattle.machine.specs.declared.Node.{Node}
@@ -22,23 +19,11 @@ use Rattle.step.specs.Entry.{appliedAt}
 use Rattle.invariant.specs.Stages.{stageOf, queued}
 use Rattle.invariant.specs.Ledger.{Ledger}
 use Rattle.invariant.specs.View.{View, goal}
-
--- what the plain object holds after requests that are fed one after the other; `answersFrom` gives the answers
-unfoldable pub plainAfter : Kind → ℕ → Plain → List Request → Plain
-plainAfter kind capacity p [] = p
-plainAfter kind capacity p (request ∷ requests) = plainAfter kind capacity (plainStep kind capacity request p .after) requests
-
--- the request of the call that thread t has begun last
-abbrev pub openRequest : (ℕ → ℕ → Request) → View → ℕ → Request
-openRequest requests v t = requests t (v .thread t .begun - 1)
+use Rattle.invariant.specs.Serving.{openRequest, Fed}
 
 -- what thread t's line does to the object; whether it applies, its row tells
 abbrev pub appliedBy : Kind → ℕ → Object → View → ℕ → Line → Applied
 appliedBy kind capacity ob v t l = appliedAt (rowOf l .event) kind capacity ob (v .node (goal v t l) .req)
-
--- a list with one more at its end, if a test holds
-abbrev pub grown : {A : Type 0} → Bool → List A → A → List A
-grown test xs x = cond test (xs ++ x ∷ []) xs
 
 -- an open call at position i, of a thread that stands at a line, with its node x; a requests are applied
 pub record CallData (jobs : List Request) (answers : List Answer) (request : Request) (i a line : ℕ) (x : Node) : Type 0 where
@@ -49,12 +34,9 @@ pub record CallData (jobs : List Request) (answers : List Answer) (request : Req
   -- once applied, its answer is in the node
   pub replied : i < a → x .ret ≡ Answered (getD answers i Empty)
 
--- requests t i is request i of thread t; jobs are the requests in Swap order, answers those given so far
+-- jobs are the requests in Swap order, answers those given so far
 pub record Data (n : ℕ) (requests : ℕ → ℕ → Request) (kind : Kind) (capacity : ℕ) (v : View) (g : Ledger) (jobs : List Request) (answers : List Answer) (ob : Object) : Type 0 where
   pub swaps : length jobs ≡ g .s
-  pub applied : length answers ≡ g .a
   pub call : (u : ℕ) → u < n → T (queued (stageOf (v .thread u .line)))
       → CallData jobs answers (openRequest requests v u) (g .at u) (g .a) (v .thread u .line) (v .node (v .thread u .cur .0))
-  -- the answers, and what the object holds, are the plain object's, fed the requests applied
-  pub plain : answers ≡ answersFrom kind capacity fresh (take (g .a) jobs)
-  pub object : contents ob ≡ plainAfter kind capacity fresh (take (g .a) jobs)
+  pub fed : Fed kind capacity jobs answers (g .a) ob

@@ -14,7 +14,8 @@ use Rattle.cc_lines.specs.Lines.{Line, rowOf}
 use Rattle.cc_synch.specs.Effect.{executed}
 use Rattle.state.specs.declared.State.{State}
 use Rattle.step.specs.Entry.{zeroThread, zeroNode}
-use Rattle.step.specs.Numbers.{number, standsAt}
+use Rattle.step.specs.Numbers.{number}
+use Rattle.machine.specs.Lines.{standsAt}
 
 -- threads and nodes by number, and Tail
 pub record View : Type 0 where

@@ -15,6 +15,7 @@ use Rattle.machine.specs.declared.Event.{Event}
 use Rattle.machine.specs.declared.Event.the-variants.{Blank, CallBegins, Swaps, TurnBegins, Applies, Returns, Spins}
 use Rattle.machine.specs.declared.NodeId.{NodeId}
 use Rattle.machine.specs.declared.Row.{Row}
+use Rattle.machine.specs.declared.Method.the-variants.{CcSynch}
 use Rattle.machine.specs.declared.ThreadId.{ThreadId}
 use Rattle.machine.specs.Accesses.{read, located, accessesOf}
 use Rattle.machine.specs.Events.{sameEvent}
@@ -28,7 +29,8 @@ use Rattle.state.specs.declared.State.{State}
 use Rattle.state.specs.Range.{countsInRange}
 use Rattle.state.proofs.RangeFacts.{CountsFit, counts-iff}
 use Rattle.step.specs.Entry.{zeroThread, zeroNode, named, line, row, target, node, event, request, applied, effect, references, countsAfter, entered}
-use Rattle.step.specs.Numbers.{number, standsAt}
+use Rattle.step.specs.Numbers.{number}
+use Rattle.machine.specs.Lines.{standsAt}
 use Rattle.step.proofs.Numbers.{line-at, each-line, by-line}
 use Rattle.step.proofs.Outcome.{runs-line}
 use Rattle.step.proofs.Soundness.{Sound}
@@ -154,7 +156,7 @@ module _ {bytes : List ℕ} {start : State} {rows : List Row} {n h capacity i : 
 
   -- no count wraps
   pub counts-fit : CountsFit counts
-  counts-fit = counts-iff counts .0 (ap countsInRange (sym (q .counted)) ∙ next-fits s (run .past) t (run .going .counted) short)
+  counts-fit = counts-iff counts .0 (ap countsInRange (sym (q .counted)) ∙ next-fits CcSynch s (run .past) t (run .going .counted) short)
 
   -- what is kept of the call has its remote references in 32 bits
   remote-fits : getD kept (place s t) unkept .remote < 2 ^ 32

@@ -19,6 +19,7 @@ use Rattle.machine.specs.declared.Announced.{Announced}
 use Rattle.object.specs.declared.Applied.{Applied}
 use Rattle.machine.specs.declared.NodeId.{NodeId}
 use Rattle.machine.specs.declared.Effect.{Effect}
+use Rattle.machine.specs.declared.Method.the-variants.{CcSynch}
 use Rattle.machine.specs.declared.ThreadId.{ThreadId}
 use Rattle.machine.specs.declared.Event.{Event}
 use Rattle.machine.specs.declared.Event.the-variants.{Swaps, TurnBegins, Applies}
@@ -56,7 +57,7 @@ use Rattle.runner.proofs.Tables.{Tables, tables-start, place, served, e
 -- the run at place i of the schedule: the entries so far, and what is left
 pub record Running (f : Fields) (bytes : List ℕ) (i : ℕ) (s : State) (kept : List Kept) (order given turns : List ℕ) : Type 0 where
   pub past : List Entry
-  pub going : Going f s past
+  pub going : Going CcSynch f s past
   pub layers : Layers f s past
   pub tables : Tables past kept order given turns
   -- the number of the next entry is its place in the schedule
@@ -64,7 +65,7 @@ pub record Running (f : Fields) (bytes : List ℕ) (i : ℕ) (s : State) (kept :
   -- threads below n, and the entries that end the run
   pub left : Each (λ t. t < f .head .n) (drop i bytes)
   pub short : length past + length (drop i bytes) ≤ 32768
-  pub ends : reverseAux (entriesFrom s (drop i bytes)) past ≡ historyOf f
+  pub ends : reverseAux (entriesFrom CcSynch s (drop i bytes)) past ≡ historyOf f
 
 -- the entries to come only add Swaps
 more-swaps : (rest past : List Entry) → howMany Swaps past ≤ howMany Swaps (reverseAux rest past)
@@ -91,7 +92,7 @@ module _ (f : Fields) (bytes : List ℕ) (fits : InRange f) where
   ends-none : {i : ℕ} {s : State} {kept : List Kept} {order given turns : List ℕ} (x : Running f bytes i s kept order given turns) → length bytes ≤ i
       → x .past ≡ historyOf f
   unfolding entriesFrom
-  ends-none {s = s} x done = ap (λ (l : List ℕ). reverseAux (entriesFrom s l) (x .past)) (sym (drop-of-length-le bytes done)) ∙ x .ends
+  ends-none {s = s} x done = ap (λ (l : List ℕ). reverseAux (entriesFrom CcSynch s l) (x .past)) (sym (drop-of-length-le bytes done)) ∙ x .ends
 
   module _ {i : ℕ} {s : State} {kept : List Kept} {order given turns : List ℕ} (x : Running f bytes i s kept order given turns) (inside : i < length bytes) where
     abbrev t : ThreadId
@@ -114,28 +115,28 @@ module _ (f : Fields) (bytes : List ℕ) (fits : InRange f) where
 
     -- the numbers that the entry reads are within the arrays
     pub thread-few : t .0 < 16
-    thread-few = omega (arith, below, state-fits s (x .going .sound .range) .small)
+    thread-few = omega (arith, below, state-fits s (x .layers .sound .range) .small)
 
     pub line-few : {k : ℕ} → k ≡ line s t → k < 22
-    line-few e = omega (arith, e, number-line s t (x .going .sound) below, number-most (lineOf (line s t)))
+    line-few e = omega (arith, e, number-line s t (x .layers .sound) below, number-most (lineOf (line s t)))
 
     pub node-few : {m : NodeId} → m ≡ target s t → m .0 < mostNodes
     node-few e =
-        rw e (omega (arith, target-in-range s t (x .going .sound .shape) (x .going .sound .range) below, state-fits s (x .going .sound .range) .small))
+        rw e (omega (arith, target-in-range s t (x .layers .sound .shape) (x .layers .sound .range) below, state-fits s (x .layers .sound .range) .small))
 
     pub slot-few : {p : ℕ} → p ≡ 16 * t .0 + (named s t .begun - 1) → p < mostCalls
-    slot-few = place-few s t (x .going .sound .shape) (x .going .sound .range) below
+    slot-few = place-few s t (x .layers .sound .shape) (x .layers .sound .range) below
 
-    ends-next : reverseAux (entriesFrom (entered s t) (drop (i + 1) bytes)) (entryOf s t ∷ x .past) ≡ historyOf f
+    ends-next : reverseAux (entriesFrom CcSynch (entered s t) (drop (i + 1) bytes)) (entryOf s t ∷ x .past) ≡ historyOf f
     unfolding entriesFrom
-    ends-next = ap (λ (l : List ℕ). reverseAux (entriesFrom s l) (x .past)) (sym here) ∙ x .ends
+    ends-next = ap (λ (l : List ℕ). reverseAux (entriesFrom CcSynch s l) (x .past)) (sym here) ∙ x .ends
 
     -- there is room in Swap order for one more
     room : Is Swaps (entryOf s t) → s .counts .records < mostCalls
     room swap =
         let counted : s .counts .records ≡ howMany Swaps (x .past) = ap (λ (c : Counts). c .records) (x .going .counted .counts) in
         let one : howMany Swaps (entryOf s t ∷ x .past) ≡ 1 + howMany Swaps (x .past) = rw (is-so (entryOf s t) Swaps swap) in
-        omega (arith, rw ends-next at (more-swaps (entriesFrom (entered s t) (drop (i + 1) bytes)) (entryOf s t ∷ x .past)), all-swaps-few f fits)
+        omega (arith, rw ends-next at (more-swaps (entriesFrom CcSynch (entered s t) (drop (i + 1) bytes)) (entryOf s t ∷ x .past)), all-swaps-few f fits)
 
     -- what the loop's own calls answered for the entry, and what the notes left in the arrays
     pub record Booked (d : Kept) (ev : Event) (applies : Bool) (m : NodeId) (answer : Answer) (e : Effect) (remote call served : ℕ) (order′ given′ turns′ : List ℕ) (mine theirs : Kept) : Type 0 where
@@ -161,8 +162,8 @@ module _ (f : Fields) (bytes : List ℕ) (fits : InRange f) where
         → Running f bytes (i + 1) (entered s t) (servedCalls s t d given turns (enteredCalls s t (length (x .past)) d kept)) (orderAfter s t order) (givenAfter s t given) (turnsAfter s t turns)
     running-next d = record {
       past = entryOf s t ∷ x .past;
-      going = going-next f s (x .past) t below few stay (x .going);
-      layers = layers-next f fits s (x .past) t below (x .going) (x .layers);
+      going = going-next CcSynch f s (x .past) t few (x .going);
+      layers = layers-next f fits s (x .past) t below (x .going) (x .layers) few;
       tables = tables-next f fits s (x .past) t below (x .going) (x .layers) few (x .tables) d room;
       numbered = omega (arith, x .numbered);
       left = each .1;
@@ -172,10 +173,10 @@ module _ (f : Fields) (bytes : List ℕ) (fits : InRange f) where
 
     module _ {k p remote : ℕ} {r : Row} {m : NodeId} {ev : Event} {ob : Applied} {e : Effect} {copies : List ℕ} {more : Counts} (called : Called s t k r m ev p ob e remote copies more) where
       shape : Shaped s
-      shape = x .going .sound .shape
+      shape = x .layers .sound .shape
 
       range : inRange s ≡ true
-      range = x .going .sound .range
+      range = x .layers .sound .range
 
       is-node : m ≡ target s t
       is-node = at-target s t shape range below called
@@ -190,7 +191,7 @@ module _ (f : Fields) (bytes : List ℕ) (fits : InRange f) where
       is-remote = rw (is-row s t shape range below called, is-node) at (called .remote-of)
 
       fits-counts : countsInRange (plus (s .counts) more) ≡ true
-      fits-counts = ap countsInRange (sums s t shape range below called) ∙ next-fits s (x .past) t (x .going .counted) few
+      fits-counts = ap countsInRange (sums s t shape range below called) ∙ next-fits CcSynch s (x .past) t (x .going .counted) few
 
       module _ {call : ℕ} (at : call ≡ 16 * t .0 + (e .thread .begun - 1)) where
         pub is-call : call ≡ place s t

@@ -11,6 +11,7 @@ use lib.Dec.{eqb}
 use borrow.Author.Tests.{eq-eqb, ne-eqb}
 use Rattle.bench_file.specs.Layout.{Fields}
 use Rattle.bench_file.specs.Bytes.{InRange}
+use Rattle.machine.specs.declared.Method.the-variants.{CcSynch}
 use Rattle.machine.specs.declared.ThreadId.{ThreadId}
 use Rattle.machine.specs.declared.NodeId.{NodeId}
 use Rattle.machine.specs.declared.Node.{Node}
@@ -27,10 +28,9 @@ use Rattle.copies.specs.Remote.{referred}
 use Rattle.state.specs.declared.Counts.{Counts}
 use Rattle.state.specs.declared.State.{State}
 use Rattle.state.proofs.RangeFacts.{state-fits}
-use Rattle.step.specs.Entry.{line, event, target, node, named, applied, effect, accesses, references, entered}
+use Rattle.step.specs.Entry.{line, event, target, node, applied, effect, accesses, references, entered}
 use Rattle.step.proofs.Numbers.{by-line}
 use Rattle.step.proofs.Outcome.{begun-few, target-in-range}
-use Rattle.invariant.specs.Ledger.{noted}
 use Rattle.invariant.specs.View.{viewOf}
 use Rattle.invariant.proofs.Bridge.{does-of}
 use Rattle.object.specs.Each.{Each}
@@ -38,7 +38,6 @@ use Rattle.object.proofs.Choice.{by-equal}
 use Rattle.object.proofs.Each.{each-map}
 use Rattle.history.specs.Entries.{Entry, threadId, is, Is, howMany}
 use Rattle.history.specs.Terms.{Call, Serving, Shown, noThread, noCall, noTurn, callOf, same, swapOrder, callAssigned, turnOf, servingOf, servings, costOf, numberOf, beganAt, returnedAt, shown, unshown, shownOf}
-use Rattle.history.specs.Method.{Moves}
 use Rattle.history.specs.History.{nodeId, lastOf, Swapped}
 use Rattle.history.proofs.OfCall.{call, same-itself, not-same, blank-of-none, not-of, is-of, left, added}
 use Rattle.history.proofs.Places.{getD-any}
@@ -49,10 +48,10 @@ use Rattle.history.proofs.Told.{is-so, is-not, by-event}
 use Rattle.claims.specs.Entries.{entryOf, filled}
 use Rattle.claims.proofs.Filled.{set-filled}
 use Rattle.claims.proofs.Counted.{remote-ones, counted-next, next-fits}
-use Rattle.claims.proofs.Layers.{Layers, stays}
-use Rattle.claims.proofs.Meets.{numbers, moves}
+use Rattle.claims.proofs.Layers.{Layers, moved, stays}
+use Rattle.claims.proofs.Meets.{numbers}
 use Rattle.claims.proofs.Run.{Going}
-use Rattle.claims.proofs.Seen.{seenOf, positionsOf}
+use Rattle.claims.proofs.Seen.{seenOf}
 use Rattle.claims.proofs.Steps.{one-sound}
 use Rattle.claims.proofs.Told.{tells-of}
 use Rattle.kept.specs.declared.Kept.{Kept}
@@ -142,23 +141,19 @@ module _ (s : State) (t : ThreadId) where
   abbrev pub turnsAfter : List ℕ → List ℕ
   turnsAfter turns = cond (sameEvent (event s t) TurnBegins) (set turns (t .0) (s .counts .turns % 65536)) turns
 
-module _ (f : Fields) (fits : InRange f) (s : State) (past : List Entry) (t : ThreadId) (below : t .0 < s .n) (going : Going f s past) (now : Layers f s past) (short : length past < 32768) where
+module _ (f : Fields) (fits : InRange f) (s : State) (past : List Entry) (t : ThreadId) (below : t .0 < s .n) (going : Going CcSynch f s past) (now : Layers f s past) (short : length past < 32768) where
   abbrev e : Entry
   e = entryOf s t
 
   few : s .n ≤ 16
-  few = state-fits s (going .sound .range) .small
-
-  -- the entry moves as a history asks
-  moved : Moves (s .n) (s .h) (seenOf (viewOf s)) (seenOf (viewOf (entered s t))) (positionsOf (now .ledger)) (positionsOf (noted (s .n) (t .0) (named s t .own .0) (now .ledger) (lineOf (line s t)))) (t .0) e
-  moved = moves (now .control) (does-of s t (going .sound) below) (tells-of s t)
+  few = state-fits s (now .sound .range) .small
 
   thread-now : viewOf (entered s t) .thread (t .0) ≡ effect s t .thread
-  thread-now = does-of s t (going .sound) below .mine
+  thread-now = does-of s t (now .sound) below .mine
 
   begun-most : effect s t .thread .begun ≤ 16
   begun-most =
-      let sound = one-sound s t (going .sound) below (stays f fits s past t below going now) (next-fits s past t (going .counted) short) in
+      let sound = one-sound s t (now .sound) below (stays f fits s past t below going now) (next-fits CcSynch s past t (going .counted) short) in
       rw (← thread-now) (begun-few (entered s t) t (sound .shape) (sound .range) below)
 
   pub place-below : place s t < mostCalls
@@ -167,7 +162,7 @@ module _ (f : Fields) (fits : InRange f) (s : State) (past : List Entry) (t : Th
   place-call : callAt (place s t) ≡ callOf e past
   place-call =
       call-there (lastOf (t .0) (effect s t .thread .begun)) (omega (arith, begun-most))
-      ∙ sym (of-last moved (now .swaps) ∙ ap (λ (th : Thread). lastOf (t .0) (th .begun)) thread-now)
+      ∙ sym (of-last (moved f fits s past t below going now) (now .chronicle .swaps) ∙ ap (λ (th : Thread). lastOf (t .0) (th .begun)) thread-now)
 
   call-place : placeOf (callOf e past) ≡ place s t
   call-place = sym (place-there (place s t) (callOf e past) place-call)
@@ -179,12 +174,12 @@ module _ (f : Fields) (fits : InRange f) (s : State) (past : List Entry) (t : Th
       let count : List Access → ℕ = λ l. referred (s .n) (t .0) (s .copies) l .remote in
       by-event e Blank
       (λ q. omega (arith, left e past c (blank-of-none e past c q) .cost, ap count (silent (lineOf (line s t)) (node s t) (target s t) q)))
-      (λ q. omega (arith, added e past c (is-of e past q) .cost, remote-ones (s .n) (t .0) (s .copies) (accesses s t)))
+      (λ q. omega (arith, added e past c (is-of e past q) .cost, remote-ones CcSynch (s .n) (t .0) (s .copies) (accesses s t)))
 
   adds-fit : (costOf (callOf e past) past + references s t .remote) % 2 ^ 32 ≡ costOf (callOf e past) (e ∷ past)
   adds-fit =
       ap (λ (k : ℕ). k % 2 ^ 32) adds
-      ∙ mod-eq-of-lt (cost-fits (e ∷ past) (counted-next s past t (going .counted) .few) (omega arith) (callOf e past))
+      ∙ mod-eq-of-lt (cost-fits (e ∷ past) (counted-next CcSynch s past t (going .counted) .few) (omega arith) (callOf e past))
 
   -- and its number, where it is such an event
   numbers-it : (told : Event) → (Is told e → Is Blank e → ⊥) → cond (is told e) (length past) (numberOf told (callOf e past) past) ≡ numberOf told (callOf e past) (e ∷ past)
@@ -241,26 +236,26 @@ module _ (f : Fields) (fits : InRange f) (s : State) (past : List Entry) (t : Th
     w = servingOf e past
 
     high : now .ledger .a < now .ledger .s
-    high = moved .serving q .1
+    high = (moved f fits s past t below going now) .serving q .1
 
     -- the call served is the first of Swap order that was not
     is-next : w .call ≡ getD (swapOrder past) (now .ledger .a) noCall
-    is-next = serves-next moved (now .swaps) q noCall
+    is-next = serves-next (moved f fits s past t below going now) (now .chronicle .swaps) q noCall
 
-    swapped : Swapped (s .n) (seenOf (viewOf s)) (w .call)
-    swapped = rw is-next (now .swaps .swapped (now .ledger .a) noCall high)
+    swapped : Swapped (f .head .n) (seenOf (viewOf s)) (w .call)
+    swapped = rw is-next (now .chronicle .swaps .swapped (now .ledger .a) noCall high)
 
     request-few : w .call .request < 16
-    request-few = omega (arith, swapped .begun, begun-few s (w .call .thread) (going .sound .shape) (going .sound .range) (swapped .thread))
+    request-few = omega (arith, swapped .begun, begun-few s (w .call .thread) (now .sound .shape) (now .sound .range) (omega (arith, swapped .thread, going .n)))
 
     given-below : placeOf (w .call) < mostCalls
-    given-below = omega (arith, swapped .thread, few, request-few)
+    given-below = omega (arith, swapped .thread, going .n, few, request-few)
 
     unserved : shownOf (w .call) (servings past) ≡ unshown
-    unserved = rw is-next (shown-none (now .swaps) (now .control .order .applied) (now .ledger .a) noCall (omega arith) high)
+    unserved = rw is-next (shown-none (now .chronicle .swaps) (now .chronicle .order) (now .ledger .a) noCall (omega arith) high)
 
     servers : Each (λ (x : Serving). x .server .0 < noThread .0) (servings past)
-    servers = each-map (λ (x : Serving) b. omega (arith, few)) (servings past) (now .servers)
+    servers = each-map (λ (x : Serving) b. omega (arith, few, going .n)) (servings past) (now .chronicle .servers)
 
     shown-more : (c : Call) → shownOf c (servings (e ∷ past)) ≡ shownOf c (servings past ++ w ∷ [])
     shown-more c = ap (shownOf c) (one-more Applies (servings past) w q)
@@ -283,10 +278,10 @@ module _ (f : Fields) (fits : InRange f) (s : State) (past : List Entry) (t : Th
     serving-other c apart = known c _ (shown-more c ∙ shown-before c w (not-same c (w .call) apart) (servings past))
 
   target-below : target s t .0 < mostNodes
-  target-below = omega (arith, target-in-range s t (going .sound .shape) (going .sound .range) below, few)
+  target-below = omega (arith, target-in-range s t (now .sound .shape) (now .sound .range) below, few)
 
   tail-below : s .tail .0 < mostNodes
-  tail-below = omega (arith, few, state-fits s (going .sound .range) .tail)
+  tail-below = omega (arith, few, state-fits s (now .sound .range) .tail)
 
   -- the latest Swap that assigned a node
   given-by : (m : ℕ) (b : Bool) → (is Swaps e && eqb (e .node .0) m) ≡ b → callAssigned (nodeId m) (e ∷ past) ≡ cond b (callOf e past) (callAssigned (nodeId m) past)

@@ -8,6 +8,7 @@ use lib.Dec.{ltb}
 use Rattle.object.specs.declared.Kind.the-variants.{Queue}
 use Rattle.bench_file.specs.Layout.{Fields, requestsOf, Judgement, accepted, refusedBy, judgeOf}
 use Rattle.bench_file.specs.Bytes.{InRange}
+use Rattle.machine.specs.declared.Method.the-variants.{CcSynch}
 use Rattle.machine.specs.Sizes.{mostCalls}
 use Rattle.state.specs.declared.State.{State}
 use Rattle.history.specs.Entries.{Entry}
@@ -48,7 +49,7 @@ playedBy history = record {
 
 -- after all entries of a schedule from a state, and of a file
 abbrev pub playedFrom : State → List ℕ → Played
-playedFrom s schedule = playedBy (reverse (entriesFrom s schedule))
+playedFrom s schedule = playedBy (reverse (entriesFrom CcSynch s schedule))
 
 abbrev pub playedOf : Fields → Played
 playedOf f = playedFrom (startOf f) (f .schedule)

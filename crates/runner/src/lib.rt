@@ -38,7 +38,7 @@ fn from_start(schedule: &[u8], start: State) -> Played
         let thread = ThreadId(schedule[i]);
         let t = thread.0 as usize;
         let named = state.threads[t];
-        let line = cc_lines::line_run(named);
+        let line = machine::line_run(named);
         let row = rows[line as usize];
         let row_event = row.event;
         // Two kinds of entry change nothing but a count: a blank, and a spin on a valid copy.

@@ -7,7 +7,8 @@ use Rattle.machine.specs.declared.ThreadId.{ThreadId}
 use Rattle.machine.specs.declared.Thread.{Thread}
 use Rattle.machine.specs.Accesses.{Access}
 use Rattle.cc_lines.specs.Lines.{Line, printed, lineOf, accessesBy}
-use Rattle.cc_lines.specs.Said.{sharedAccesses, beside}
+use Rattle.cc_lines.specs.Said.{sharedAccesses}
+use Rattle.machine.specs.Lines.{beside}
 use Rattle.cc_lines.proofs.Table.{as-tabled}
 use Rattle.state.specs.declared.State.{State}
 use Rattle.step.specs.Entry.{named, line, accesses}

@@ -29,7 +29,8 @@ use Rattle.machine.specs.declared.SharedAccess.the-variants.{NoAccess, Read, Wr
 use Rattle.machine.specs.declared.Row.{Row}
 use Rattle.machine.specs.Accesses.{Access, sameLocation, located, accessTo, accessesOf}
 use Rattle.machine.specs.Sizes.{locationsOf, mostLocations}
-use Rattle.cc_lines.specs.Lines.{lineOf, lineRun}
+use Rattle.cc_lines.specs.Lines.{lineOf}
+use Rattle.machine.specs.Lines.{lineRun}
 use Rattle.cc_synch.specs.Effect.{executed}
 use Rattle.copies.specs.Remote.{place, ends, copiesAfter, referred}
 use Rattle.copies.proofs.Holding.{copy-after}

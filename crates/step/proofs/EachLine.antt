@@ -25,7 +25,8 @@ use Rattle.cc_synch.specs.Effect.{goes, withCur, withTmp, withServed, keeps, wr
 use Rattle.state.specs.Range.{threadInRange}
 use Rattle.state.proofs.Kept.{first-at}
 use Rattle.state.proofs.RangeFacts.{there, nowhere, ThreadFits, NodeFits, not-null, leb-iff, thread-iff}
-use Rattle.step.specs.Numbers.{number, standsAt}
+use Rattle.step.specs.Numbers.{number}
+use Rattle.machine.specs.Lines.{standsAt}
 use Rattle.step.proofs.Numbers.{number-of}
 
 -- a test that holds exactly if another fails

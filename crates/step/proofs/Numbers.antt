@@ -1,31 +1,21 @@
 -- Laws of lines and their numbers, of where a thread stands that runs one, and of a test as a number. Assumes nothing.
 use Prim.Native.Nat.{ℕ, zero, suc, _+_, _≤_, _<_}
 use native.Mathlib.Omega.{arith}
-use mathlib.Core.Path.{_≡_, refl, sym, ap, subst, _∙_}
+use mathlib.Core.Path.{_≡_, refl}
 use mathlib.Core.Bool.{Bool, true, false, cond, _||_, false≢true, and-eq-true-iff}
-use mathlib.Core.List.{List, [], _∷_}
+use mathlib.Core.List.{_∷_}
 use lib.Dec.{eqb, eqb·suc-zero}
-use lib.ListN.{length, getD}
 use borrow.Author.Tests.{eqb-true, leb-true, lt-leb}
 use Rattle.object.specs.Each.{Each}
-use Rattle.object.proofs.Each.{each-getD-or}
+use Rattle.machine.proofs.Lines.{number-at, each-of, by-number}
 use Rattle.cc_lines.specs.Lines.{Line, printed, lineOf, L0, L1, L2, L3, L4, L5, L6, L7, L8, L9, L10, L11, L12, L13, L14, L15, L16, L17, L18, L19, L20, L21}
 use Rattle.state.specs.Range.{lineInRange}
 use Rattle.step.specs.Entry.{oneIf}
-use Rattle.step.specs.Numbers.{number, standsAt}
-
--- the numbers of a list's lines are i and those that follow
-abbrev Numbered : ℕ → List Line → Type 0
-Numbered i [] = Unit
-Numbered i (l ∷ ls) = (number l ≡ i) × Numbered (suc i) ls
-
-number-at : (i : ℕ) (ls : List Line) (k : ℕ) → Numbered i ls → k < length ls → number (getD ls k L0) ≡ i + k
-number-at i [] k e h = absurd (omega arith)
-number-at i (l ∷ ls) zero e h = omega arith
-number-at i (l ∷ ls) (suc k) e h = omega (arith, number-at (suc i) ls k (e .1) (omega arith))
+use Rattle.step.specs.Numbers.{number}
+use Rattle.machine.specs.Lines.{standsAt}
 
 pub number-of : (k : ℕ) → k ≤ 21 → number (lineOf k) ≡ k
-number-of k h = omega (arith, number-at 0 (L0 ∷ printed) k (omega arith) (omega arith))
+number-of k h = omega (arith, number-at number L0 0 (L0 ∷ printed) k (omega arith) (omega arith))
 
 -- a line is the one of its number
 pub line-at : (l : Line) → lineOf (number l) ≡ l
@@ -54,14 +44,14 @@ line-at L21 = refl
 
 -- what holds of a blank and of each printed line holds of every line
 pub each-line : (P : Line → Type 0) → Each P (L0 ∷ printed) → (l : Line) → P l
-each-line P each l = subst P (line-at l) (each-getD-or P (L0 ∷ printed) (number l) L0 each (each .0))
+each-line P each = each-of number L0 (L0 ∷ printed) line-at P each (each .0)
 
 pub number-most : (l : Line) → number l ≤ 21
 number-most = each-line (λ (l : Line). number l ≤ 21) (omega arith)
 
 -- a line whose number is known
 pub by-line : (P : Line → Type 0) (l : Line) {k : ℕ} → number l ≡ k → P (lineOf k) → P l
-by-line P l q p = subst P (sym (ap lineOf q) ∙ line-at l) p
+by-line = by-number number L0 (L0 ∷ printed) line-at
 
 -- a call's last line is 11 or 21
 pub by-last : {P : Type 0} (k : ℕ) → (eqb k 11 || eqb k 21) ≡ true → (k ≡ 11 → P) → (k ≡ 21 → P) → P
@@ -71,23 +61,11 @@ by-last {P} k last answered leaves = by-test (eqb k 11) refl last
     by-test true e z = answered (eqb-true k 11 e)
     by-test false e z = leaves (eqb-true k 21 z)
 
--- a thread that stands at a line, with requests left or not, runs line k
-pub record RunsNext (stand : ℕ) (left : Bool) (k : ℕ) : Type 0 where
-  pub stands : stand ≡ standsAt k
-  pub printed : k ≤ 21
-  pub begins : k ≡ 1 → left ≡ true
-
-pub runs-next : (line : ℕ) (left : Bool) → lineInRange line ≡ true → RunsNext line left (cond (eqb line 0) (cond left 1 0) line)
-runs-next zero true e = record { stands = refl; printed = omega arith; begins = λ _. refl }
-runs-next zero false e = record { stands = refl; printed = omega arith; begins = λ h. absurd (omega arith) }
-runs-next (suc zero) left e = absurd (false≢true e)
-runs-next (suc (suc k)) left e =
-    let p = simp (eqb·suc-zero, and-eq-true-iff) at e in
-    rw eqb·suc-zero (record {
-      stands = rw (lt-leb (suc (suc k)) 1 (omega arith));
-      printed = leb-true _ _ (p .1);
-      begins = λ h. absurd (omega arith);
-    })
+-- a thread's next line is idle or printed, and never line 1
+pub line-fits : (line : ℕ) → lineInRange line ≡ true → (line ≤ 21) × (line ≡ 1 → ⊥)
+line-fits zero e = (omega arith, λ q. omega arith)
+line-fits (suc zero) e = absurd (false≢true e)
+line-fits (suc (suc k)) e = let p = simp (eqb·suc-zero, and-eq-true-iff) at e in (leb-true _ _ (p .1), λ q. omega arith)
 
 -- a test counts one at most
 pub at-most-one : (test : Bool) → oneIf test ≤ 1

@@ -32,8 +32,9 @@ use Rattle.state.proofs.Nodes.{node-at}
 use Rattle.state.proofs.RangeFacts.{ThreadFits, thread-iff, NodeFits, node-iff, points-iff, StateFits, state-fits}
 use Rattle.step.specs.Entry.{zeroThread, zeroNode, zeroSlot, servedBy, appliedAt, named, line, target, node, event, request, applied, effect, countsAfter, entered}
 use Rattle.step.specs.Step.{goesThrough}
-use Rattle.step.specs.Numbers.{standsAt}
-use Rattle.step.proofs.Numbers.{RunsNext, runs-next}
+use Rattle.machine.specs.Lines.{standsAt}
+use Rattle.machine.proofs.Lines.{RunsNext, runs-next}
+use Rattle.step.proofs.Numbers.{line-fits}
 use Rattle.step.proofs.EachLine.{Leaves, leaves-at, target-at}
 
 -- what holds where no request is applied, and of each request's answer and the object after it, holds after an entry, whether or not a req is served
@@ -72,8 +73,8 @@ module _ (s : State) (t : ThreadId) (shaped : Shaped s) (range : inRange s ≡ t
   pub begun-few : named s t .begun ≤ 16
   begun-few = omega (arith, thread-fits .few, thread-fits .counted)
 
-  pub runs-line : RunsNext (named s t .line) (ltb (named s t .begun) (named s t .count)) (line s t)
-  runs-line = runs-next (named s t .line) (ltb (named s t .begun) (named s t .count)) (thread-fits .a-line)
+  pub runs-line : RunsNext (named s t) 21
+  runs-line = let fits = line-fits (named s t .line) (thread-fits .a-line) in runs-next (named s t) 21 (omega arith) (fits .0) (fits .1)
 
   standing : ThreadFits (s .n) (s .h) (named s t) (standsAt (line s t))
   standing = subst (ThreadFits (s .n) (s .h) (named s t)) (runs-line .stands) thread-fits
@@ -101,7 +102,7 @@ module _ (s : State) (t : ThreadId) (shaped : Shaped s) (range : inRange s ≡ t
   leaves =
       leaves-at (s .n) (s .h) (s .kind) (s .capacity) (named s t) (node s t) (s .tail) (request s t) (applied s t .answer)
       (facts .small) (facts .tail) node-fits
-      thread-fits request-known answer-in-range (line s t) (runs-line .printed) standing (λ e. ltb-true _ _ (runs-line .begins e))
+      thread-fits request-known answer-in-range (line s t) (runs-line .printed) standing (runs-line .begins)
 
   head-stays : headInRange (entered s t) ≡ true
   head-stays =

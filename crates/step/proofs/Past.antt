@@ -17,11 +17,12 @@ use Rattle.object.proofs.Plainly.{PastHeld, past-held, HoldSame, AnswerSame}
 use Rattle.machine.specs.declared.ThreadId.{ThreadId}
 use Rattle.machine.specs.declared.Thread.{Thread}
 use Rattle.machine.specs.declared.Effect.{Effect}
-use Rattle.machine.specs.Accesses.{Access, read, write, swap, located, pointed}
+use Rattle.machine.specs.Accesses.{Access, read, write, swap, cas, located, pointed}
 use Rattle.machine.specs.Events.{sameEvent}
 use Rattle.machine.specs.Sizes.{locationsOf}
 use Rattle.machine.specs.declared.Event.the-variants.{Applies}
-use Rattle.cc_lines.specs.Lines.{lineOf, lineRun, rowOf}
+use Rattle.cc_lines.specs.Lines.{lineOf, rowOf}
+use Rattle.machine.specs.Lines.{lineRun}
 use Rattle.cc_synch.specs.Effect.{takesOut}
 use Rattle.copies.specs.Remote.{place, hasCopyOf, wordAfter, copiesAfter, referred}
 use Rattle.copies.proofs.Valid.{read-past, write-past}
@@ -50,6 +51,7 @@ module _ (n t : ℕ) (below : t < n) where
   word-kept (read m f) word = read-past word t n below
   word-kept (write m f) word = write-past n word t
   word-kept swap word = write-past n word t
+  word-kept cas word = write-past n word t
 
   threads-kept : (a : Access) (copies : List ℕ) → copiesFrom n (copiesAfter n t a copies) ≡ copiesFrom n copies
   threads-kept a copies = map-set-same (λ word. word / 2 ^ n) copies (place (located a)) _ 0 (word-kept a (getD copies (place (located a)) 0))

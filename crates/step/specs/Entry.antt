@@ -23,14 +23,16 @@ use Rattle.machine.specs.declared.Row.{Row}
 use Rattle.machine.specs.declared.Effect.{Effect}
 use Rattle.machine.specs.Accesses.{Access, pointed}
 use Rattle.machine.specs.Events.{sameEvent}
-use Rattle.cc_lines.specs.Lines.{lineOf, lineRun, rowOf, accessesBy, eventIn}
+use Rattle.cc_lines.specs.Lines.{lineOf, rowOf, accessesBy, eventIn}
+use Rattle.machine.specs.Lines.{lineRun}
 use Rattle.cc_synch.specs.Effect.{executed}
 use Rattle.copies.specs.Remote.{Referred, referred}
 use Rattle.state.specs.declared.Slot.{Slot}
 use Rattle.state.specs.declared.Counts.{Counts}
 use Rattle.state.specs.declared.State.{State}
 
--- what a read past the end of an array gives, which no state in range meets; not the start
+-- what a read past the end of an array gives: no state in range of CC-Synch meets it, and of DSM-Synch only a line that makes nothing of it (idle, myNode is null);
+-- not the start
 abbrev pub zeroNodeId : NodeId
 zeroNodeId = record { 0 = 0 }
 
@@ -44,6 +46,9 @@ zeroThread = record {
   tmp = zeroNodeId;
   tmpnext = zeroNodeId;
   served = 0;
+  toggle = 0;
+  my = zeroNodeId;
+  pred = zeroNodeId;
 }
 
 abbrev pub zeroNode : Node
@@ -95,21 +100,41 @@ wrapped c = record {
   remote = c .remote % 2 ^ 32;
 }
 
+-- the state after an entry of thread t, by whichever method: its thread, Tail and the node that it writes, the object, the copies and the counts
+abbrev pub stateWith : State → ThreadId → NodeId → Effect → Applied → List ℕ → Counts → State
+stateWith s t target effect applied copies counts = record {
+  n = s .n;
+  h = s .h;
+  kind = s .kind;
+  capacity = s .capacity;
+  tail = effect .tail;
+  threads = set (s .threads) (t .0) (effect .thread);
+  nodes = set (s .nodes) (target .0) (effect .node);
+  requests = s .requests;
+  copies = copies;
+  object = applied .object;
+  counts = counts;
+}
+
+-- the thread that an entry names, the line that it runs, 0 for a blank, and the request of the thread's call, the last begun of its row
 module _ (s : State) (t : ThreadId) where
-  -- the thread that the entry names
   abbrev pub named : Thread
   named = getD (s .threads) (t .0) zeroThread
 
-  -- the line that it runs, 0 for a blank
   abbrev pub line : ℕ
   line = lineRun named
 
+  abbrev pub request : Request
+  request = getD (s .requests) (16 * t .0 + (named .begun - 1)) zeroSlot .request
+
+-- what the entry of a thread does in a state by CC-Synch
+module _ (s : State) (t : ThreadId) where
   abbrev pub row : Row
-  row = rowOf (lineOf line)
+  row = rowOf (lineOf (line s t))
 
   -- the node that the line points to
   abbrev pub target : NodeId
-  target = pointed (row .node) named
+  target = pointed (row .node) (named s t)
 
   abbrev pub node : Node
   node = getD (s .nodes) (target .0) zeroNode
@@ -118,20 +143,16 @@ module _ (s : State) (t : ThreadId) where
   abbrev pub event : Event
   event = eventIn (row .event) node
 
-  -- the request of the thread's call, the last begun of its row
-  abbrev pub request : Request
-  request = getD (s .requests) (16 * t .0 + (named .begun - 1)) zeroSlot .request
-
   abbrev pub applied : Applied
   applied = appliedAt event (s .kind) (s .capacity) (s .object) (node .req)
 
   -- what the line does, by Algorithm 1
   abbrev pub effect : Effect
-  effect = executed named node (s .tail) (s .h) request (applied .answer) (lineOf line)
+  effect = executed (named s t) node (s .tail) (s .h) (request s t) (applied .answer) (lineOf (line s t))
 
   -- the accesses that it makes, in order
   abbrev pub accesses : List Access
-  accesses = accessesBy named (lineOf line)
+  accesses = accessesBy (named s t) (lineOf (line s t))
 
   -- and which of them are remote
   abbrev pub references : Referred
@@ -142,16 +163,4 @@ module _ (s : State) (t : ThreadId) where
 
   -- the state after the entry
   abbrev pub entered : State
-  entered = record {
-    n = s .n;
-    h = s .h;
-    kind = s .kind;
-    capacity = s .capacity;
-    tail = effect .tail;
-    threads = set (s .threads) (t .0) (effect .thread);
-    nodes = set (s .nodes) (target .0) (effect .node);
-    requests = s .requests;
-    copies = references .copies;
-    object = applied .object;
-    counts = countsAfter;
-  }
+  entered = stateWith s t target effect applied (references .copies) countsAfter

@@ -1,3 +1,4 @@
+pub mod DsmEntry
 pub mod Entry
 pub mod Numbers
 pub mod Past

@@ -1,7 +1,5 @@
--- The numbers of printed lines, and where a thread stands that runs one.
+-- The numbers of printed lines.
 use Prim.Native.Nat.{ℕ}
-use mathlib.Core.Bool.{cond}
-use lib.Dec.{leb}
 use Rattle.cc_lines.specs.Lines.{Line, L0, L1, L2, L3, L4, L5, L6, L7, L8, L9, L10, L11, L12, L13, L14, L15, L16, L17, L18, L19, L20, L21}
 
 -- the number of a line
@@ -28,7 +26,3 @@ number L18 = 18
 number L19 = 19
 number L20 = 20
 number L21 = 21
-
--- where a thread stands that runs a line: a blank and line 1 run from idle
-abbrev pub standsAt : ℕ → ℕ
-standsAt k = cond (leb k 1) 0 k

@@ -1,4 +1,4 @@
--- What lies past n, a thread's count or the items held, which a single step neither changes nor judges: document 01, 'A single step judges 14 ..'.
+-- What lies past n, a thread's count or the items held, which a single step, by CC-Synch, neither changes nor judges: document 01, 'A single step judges 14 ..'.
 use Prim.Native.Nat.{ℕ, _+_, _/_, _^_, _<_}
 use mathlib.Core.Path.{_≡_}
 use mathlib.Core.List.{List, map}

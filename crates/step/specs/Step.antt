@@ -1,4 +1,4 @@
--- The single step: 14 for the state, then 11, then 14 for the outcome, and the state after it.
+-- The single step, by CC-Synch: 14 for the state, then 11, then 14 for the outcome, and the state after it.
 use Prim.Native.Nat.{ℕ}
 use mathlib.Core.Bool.{Bool, cond, not, _&&_}
 use lib.Dec.{leb}

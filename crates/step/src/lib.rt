@@ -132,7 +132,7 @@ fn enter(state: State, thread: ThreadId) -> Stepped
     let object = state.object;
     let counts = state.counts;
     let named = state.threads[t];
-    let line = cc_lines::line_run(named);
+    let line = machine::line_run(named);
     let row = cc_lines::row_of(line);
     let pointer = row.node;
     let target = machine::pointed(pointer, named);

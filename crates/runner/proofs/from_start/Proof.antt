@@ -155,7 +155,7 @@ spun : (c : tie.Then3 Inv-loop μ-loop) → let s = state (entry-spun c) in Quie
 spun c =
     let at = entry-spun c in
     let now = at .before .loop .inv in
-    spin-quiet _ _ (now .running .going .sound) (below _ _ (now .fits) (now .running) (at .loop-test .taken)) (spins c)
+    spin-quiet _ _ (now .running .layers .sound) (below _ _ (now .fits) (now .running) (at .loop-test .taken)) (spins c)
 
 place-below : (c : tie.After-call-place Inv-loop μ-loop) → c .call-place .result < mostCalls
 place-below c =

@@ -1,0 +1,53 @@
+-- What an entry tells, by its event, of either method: only what the event uses. Assumes nothing.
+use native.Mathlib.Omega.{arith}
+use mathlib.Core.Path.{_≡_}
+use mathlib.Core.Bool.{Bool}
+use mathlib.Core.List.{List}
+use borrow.Author.Tests.{eq-eqb, ne-eqb}
+use Rattle.object.specs.declared.Answer.{Answer}
+use Rattle.machine.specs.declared.Method.the-variants.{CcSynch, DsmSynch}
+use Rattle.machine.specs.declared.ThreadId.{ThreadId}
+use Rattle.machine.specs.declared.NodeId.{NodeId}
+use Rattle.machine.specs.declared.Node.{Node}
+use Rattle.machine.specs.declared.RetVal.the-variants.{Answered}
+use Rattle.machine.specs.declared.Event.{Event}
+use Rattle.machine.specs.declared.Event.the-variants.{Swaps, Applies, Returns}
+use Rattle.machine.specs.Accesses.{Access}
+use Rattle.machine.specs.Events.{eventNumber}
+use Rattle.state.specs.declared.State.{State}
+use Rattle.step.specs.Entry.{named, event, target, node, applied, accesses}
+use Rattle.step.specs.DsmEntry as dsm
+use Rattle.history.specs.Entries.{Entry, Is}
+use Rattle.history.specs.Copies.{remoteMarks}
+use Rattle.claims.specs.Entries.{entryWith, entryOf, dsmEntryOf}
+
+-- a Swap tells the node that it assigns and the one that it gives; an entry that applies the node, its req and the answer; one that returns the ret
+pub record Telling (e : Entry) (assigned tail applies : NodeId) (x : Node) (answer : Answer) : Type 0 where
+  pub assigns : Is Swaps e → e .node ≡ assigned
+  pub gives : Is Swaps e → e .given ≡ tail
+  pub serves : Is Applies e → e .node ≡ applies
+  pub takes : Is Applies e → e .req ≡ x .req
+  pub answers : Is Applies e → e .answer ≡ Answered answer
+  pub returns : Is Returns e → e .ret ≡ x .ret
+
+tells-with : (t : ThreadId) (event : Event) (accesses : List Access) (remote : List Bool) (assigned tail applies : NodeId) (x : Node) (answer : Answer)
+    → Telling (entryWith t event accesses remote assigned tail applies x answer) assigned tail applies x answer
+tells-with t event accesses remote assigned tail applies x answer = record {
+  assigns = λ q. rw (eq-eqb (eventNumber event) 2 q);
+  gives = λ q. rw (eq-eqb (eventNumber event) 2 q);
+  serves = λ q. rw (ne-eqb (eventNumber event) 2 (λ z. omega arith), eq-eqb (eventNumber event) 4 q);
+  takes = λ q. rw (eq-eqb (eventNumber event) 4 q);
+  answers = λ q. rw (eq-eqb (eventNumber event) 4 q);
+  returns = λ q. rw (eq-eqb (eventNumber event) 6 q);
+}
+
+module _ (s : State) (t : ThreadId) where
+  pub entry-tells : Telling (entryOf s t) (s .tail) (s .tail) (target s t) (node s t) (applied s t .answer)
+  entry-tells =
+      tells-with t (event s t) (accesses s t) (remoteMarks CcSynch (s .n) (t .0) (s .copies) (accesses s t)) (s .tail) (s .tail) (target s t) (node s t)
+      (applied s t .answer)
+
+  pub dsm-entry-tells : Telling (dsmEntryOf s t) (named s t .my) (s .tail) (dsm.first s t) (dsm.node s t) (dsm.applied s t .answer)
+  dsm-entry-tells =
+      tells-with t (dsm.event s t) (dsm.made s t) (remoteMarks DsmSynch (s .n) (t .0) (s .copies) (dsm.made s t)) (named s t .my) (s .tail) (dsm.first s t)
+      (dsm.node s t) (dsm.applied s t .answer)
