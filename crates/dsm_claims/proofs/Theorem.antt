@@ -1,0 +1,98 @@
+-- The claims of DSM-Synch, for all fields in range, at every cut of the schedule before an entry that meets null. Assumes nothing else.
+use Prim.Native.Nat.{ℕ, _<_}
+use native.Mathlib.Omega.{arith}
+use mathlib.Core.Path.{_≡_, refl, ap}
+use mathlib.Core.Bool.{true}
+use mathlib.Core.List.{List, [], _∷_, reverse}
+use lib.ListN.{length, take}
+use Rattle.object.proofs.Within.{within-range}
+use Rattle.bench_file.specs.Layout.{Fields}
+use Rattle.bench_file.specs.Bytes.{InRange}
+use Rattle.bench_file.proofs.RoundTrip.{capacity-range}
+use Rattle.machine.specs.declared.Method.the-variants.{DsmSynch}
+use Rattle.machine.specs.declared.Thread.{Thread}
+use Rattle.machine.specs.declared.ThreadId.{ThreadId}
+use Rattle.state.specs.declared.State.{State}
+use Rattle.step.specs.DsmEntry as dsm
+use Rattle.invariant.specs.View.{viewOf}
+use Rattle.dsm_invariant.specs.Ledger.{freshLedger}
+use Rattle.dsm_invariant.proofs.Start.{Fresh, control-fresh}
+use Rattle.dsm_invariant.proofs.Tip.{tip-fresh}
+use Rattle.dsm_invariant.proofs.Cost.{cost-fresh}
+use Rattle.dsm_invariant.proofs.Data.{data-fresh}
+use Rattle.history.specs.Entries.{Entry}
+use Rattle.history.proofs.OfCall.{never-other}
+use Rattle.claims.specs.Entries.{dsmEntryOf, startBy, stateAfter, meetsNoNull, entriesBy}
+use Rattle.claims.specs.Claims.{Demand3At, DsmDemand3Of}
+use Rattle.claims.proofs.Chronicle.{asks, chronicle-fresh}
+use Rattle.claims.proofs.Chronicled.{Chronicled}
+use Rattle.claims.proofs.Cut.{NoNull, none-met}
+use Rattle.claims.proofs.Demand.{demand-3-from}
+use Rattle.claims.proofs.Run.{Going, run-keeps}
+use Rattle.claims.proofs.Start.{shaped-start, thread-start}
+use Rattle.dsm_claims.proofs.Layers.{Bounded, Layers, null-alone, layers-next}
+use Rattle.dsm_claims.proofs.Seen.{phaseOf, seenOf, positionsOf, idle-line}
+
+-- as the claim needs it: what a call that another served has cost is what is claimed, since no Swap gives its thread's other node
+chronicled : (f : Fields) (s : State) (past : List Entry) → Going DsmSynch f s past → Layers f s past → Chronicled Bounded DsmSynch f s past
+chronicled f s past going now = record {
+  seen = seenOf (viewOf s);
+  positions = positionsOf (now .ledger);
+  cost = now .cost;
+  answers = now .answers;
+  chronicle = now .chronicle;
+  fed = rw (← going .kind, ← going .capacity) (now .object .fed);
+  said = now .said;
+  idle-line = λ u b z. idle-line (now .control) u (omega (arith, going .n)) z;
+  busy-line = λ u b z e. omega (arith, ap phaseOf e);
+  begun = λ u b. refl;
+  by-another = λ c o alone. rw (never-other c past (now .own-never)) (o .by-another alone);
+  combining = λ c o alone. tt;
+}
+
+module _ (f : Fields) (fits : InRange f) where
+  -- the fresh machine: all threads idle with toggle 0, and Tail null
+  fresh-start : Fresh (f .head .n) (viewOf (startBy DsmSynch f))
+  fresh-start = record {
+    line = λ u b. ap (λ (th : Thread). th .line) (thread-start DsmSynch f fits u b);
+    toggle = λ u b. ap (λ (th : Thread). th .toggle) (thread-start DsmSynch f fits u b);
+    tail = refl;
+  }
+
+  layers-start : Layers f (startBy DsmSynch f) []
+  layers-start =
+      let n = f .head .n in
+      let v = viewOf (startBy DsmSynch f) in
+      let idle = fresh-start .line in
+      record {
+        ledger = freshLedger;
+        cost = λ u. 0;
+        answers = [];
+        shape = shaped-start DsmSynch f fits;
+        control = control-fresh n (f .head .h) v fresh-start;
+        tip = tip-fresh n v idle;
+        spent = cost-fresh n v (λ u. 0) idle;
+        object =
+            data-fresh n (asks f) (f .head .object) (f .head .capacity) v
+            (within-range _ _ _ .1 (capacity-range (f .head .object) (f .head .capacity) .1 (fits .head .capacity))) idle;
+        chronicle =
+            chronicle-fresh Bounded f (seenOf v) (positionsOf freshLedger) (λ u. 0) (λ u b. ap phaseOf (idle u b))
+            (λ u b. ap (λ (th : Thread). th .begun) (thread-start DsmSynch f fits u b)) refl refl;
+        said = tt;
+        own-never = refl;
+        rows = λ u b. ap (λ (th : Thread). th .count) (thread-start DsmSynch f fits u b);
+      }
+
+  -- every entry that meets no null keeps the invariant, so the machine after j such entries has it
+  run-layers : (j : ℕ) → meetsNoNull (startBy DsmSynch f) (take j (f .schedule)) ≡ true
+      → Going DsmSynch f (stateAfter DsmSynch (startBy DsmSynch f) (take j (f .schedule))) (reverse (take j (entriesBy DsmSynch f)))
+      × Layers f (stateAfter DsmSynch (startBy DsmSynch f) (take j (f .schedule))) (reverse (take j (entriesBy DsmSynch f)))
+  run-layers j none =
+      run-keeps DsmSynch f fits NoNull (Layers f) layers-start (λ s past t below short fine going now. layers-next f fits s past t below going now fine) j
+      (none-met (startBy DsmSynch f) (take j (f .schedule)) none)
+
+  pub dsm-demand-3 : DsmDemand3Of f
+  dsm-demand-3 j none =
+      let kept = run-layers j none in
+      demand-3-from Bounded DsmSynch f fits j (kept .0) (chronicled f _ _ (kept .0) (kept .1))
+      (λ t below. null-alone f fits _ _ t (omega (arith, kept .0 .n)) (kept .0) (kept .1)) (kept .1 .own-never)
