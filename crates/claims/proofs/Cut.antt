@@ -66,7 +66,7 @@ pub always : (s : State) (schedule : List ℕ) → AllOk CcSynch Always s schedu
 always s [] = tt
 always s (t ∷ schedule) = (tt, always (entered s (threadId t)) schedule)
 
--- of DSM-Synch that it follows no null and puts none into tmpNode
+-- of DSM-Synch that it meets no null
 abbrev pub NoNull : State → ThreadId → Type 0
 NoNull s t = dsm.null-met s t ≡ false
 

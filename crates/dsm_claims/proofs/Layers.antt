@@ -41,7 +41,7 @@ use Rattle.dsm_invariant.specs.Data.{Data}
 use Rattle.dsm_invariant.proofs.Bridge.{number-line, stands-so, some-left, none-left, does-of}
 use Rattle.dsm_invariant.proofs.Events.{Told, told}
 use Rattle.dsm_invariant.proofs.Steps.{control-kept}
-use Rattle.dsm_invariant.proofs.Threads.{by-last, follows-at}
+use Rattle.dsm_invariant.proofs.Threads.{by-last, meets-at}
 use Rattle.dsm_invariant.proofs.Tip.{tip-kept, swap-gives}
 use Rattle.dsm_invariant.proofs.Cost.{cost-kept, returns-12}
 use Rattle.dsm_invariant.proofs.Data.{data-kept, served-asks, answer-there, no-line-out}
@@ -106,7 +106,7 @@ module _ (f : Fields) (fits : InRange f) (s : State) (past : List Entry) (t : Th
       record {
         alone = rw number-l at (no-line-out (now .control) (now .object) l below stands (λ q. some-left s t (now .control) below (sym number-l ∙ q)));
         lines = λ q. and-eq-true-iff (eqb (line s t) 21 || eqb (line s t) 26) (isNull (dsm.node s t .next)) .0
-            (sym (rw number-l at (follows-at (now .control) (t .0) (number l) (dsm.node s t) below stands)) ∙ q) .0;
+            (sym (rw number-l at (meets-at (now .control) (t .0) (number l) (dsm.node s t) below stands)) ∙ q) .0;
       }
 
   module _ (fine : dsm.null-met s t ≡ false) where

@@ -1,5 +1,5 @@
 -- Requests, answers and the object: the data invariant holds at the start and is kept by every line, no line uses an empty req or ret, and none but one that
--- follows null is 14. Assumes the control invariant, and that a call begins only with a request that its thread has left and the object knows.
+-- meets null is 14. Assumes the control invariant, and that a call begins only with a request that its thread has left and the object knows.
 use Prim.Native.Nat.{ℕ, suc, _+_, _-_, _≤_, _<_}
 use native.Mathlib.Nat.{add-zero}
 use native.Mathlib.Omega.{arith}
@@ -131,7 +131,7 @@ module _ {n h : ℕ} {v : View} {g : Ledger} (c : Control n h v g) {requests : �
           unless (lastLine (number l)) (isEmptyRet (first v t l .ret)) (λ e. rw (answer-there e)),
         )
 
-    -- a line is 14 only by following null or putting it into tmpNode: at line 15 the served counter is below h
+    -- a line is 14 only where it meets null: at line 15 the served counter is below h
     pub no-line-out : (number l ≡ 1 → v .thread t .begun < v .thread t .count)
         → takesOut (v .thread t) (first v t l) h (number l) ≡ meetsNull (v .thread t) (first v t l) (number l)
     no-line-out begins =
@@ -142,11 +142,6 @@ module _ {n h : ℕ} {v : View} {g : Ledger} (c : Control n h v g) {requests : �
           unless (eqb (number l) 15) (leb h (th .served)) (λ e. lt-leb h (th .served) (room c l below stands (eqb-true (number l) 15 e))),
           uses-none,
         ) (simp or-false)
-
-  -- and a line that runs does neither
-  pub stays-in : {v′ : View} {t : ℕ} {request : Request} {answer : Answer} (l : Line) → Does n h v v′ t l request answer
-      → (number l ≡ 1 → v .thread t .begun < v .thread t .count) → takesOut (v .thread t) (first v t l) h (number l) ≡ false
-  stays-in l d begins = no-line-out l (d .below) (d .stands) begins ∙ d .fine
 
   -- the nodes of two threads whose requests are written, or will be, are two
   homes-apart : (u w : ℕ) → u < n → w < n → T (chosen (stageOf (v .thread u .line))) → T (chosen (stageOf (v .thread w .line)))

@@ -18,7 +18,8 @@ use Rattle.dsm_invariant.specs.View.{Does}
 use Rattle.dsm_invariant.specs.Control.{none, right, Old, Pred, first, after, Gate, closed, turn, Gated, WaitRow, WaitFacts, Control}
 use Rattle.object.proofs.Choice.{by-equal, either}
 use Rattle.invariant.proofs.Upd.{upd-same, upd-other}
-use Rattle.dsm_invariant.proofs.Basics.{toggled-twice, waits-free, waits-held}
+use Rattle.invariant.proofs.Waits.{waits-free, waits-held}
+use Rattle.dsm_invariant.proofs.Basics.{toggled-twice}
 use Rattle.dsm_invariant.proofs.Places.{from, alone, placed, prepared-apart, places-apart, place-exists, known, inside, mine-old}
 use Rattle.dsm_invariant.proofs.Stable.{link-stable}
 use Rattle.dsm_invariant.proofs.Frame.{old-in, kept}

@@ -8,9 +8,10 @@ use Rattle.machine.specs.declared.Node.{Node}
 use Rattle.machine.specs.declared.Thread.{Thread}
 use Rattle.dsm_invariant.specs.Stages.{Stage, Out, idle, o2, o3, o4, o5, o6, o7, out, wait, combine, leave, nowhere, queued}
 use Rattle.dsm_invariant.specs.Ledger.{Ledger, numberOf, nodeAt}
-use Rattle.dsm_invariant.specs.Control.{waits, Link, none, right, In, Old, outRow, preparing, Even, Pred, first, after, Gate, arriving, behind, closed, opened, released, turn, Gated, WaitRow, waitRow, WaitFacts, CombineRow, combineRow, CombineFacts}
+use Rattle.invariant.specs.Waits.{waits}
+use Rattle.dsm_invariant.specs.Control.{Link, none, right, In, Old, outRow, preparing, Even, Pred, first, after, Gate, arriving, behind, closed, opened, released, turn, Gated, WaitRow, waitRow, WaitFacts, CombineRow, combineRow, CombineFacts}
 use Rattle.object.proofs.Choice.{by-equal, by-order}
-use Rattle.dsm_invariant.proofs.Basics.{waits-below, waits-free}
+use Rattle.invariant.proofs.Waits.{waits-below, waits-free}
 use Rattle.dsm_invariant.proofs.Places.{Knows}
 
 -- the counts of before

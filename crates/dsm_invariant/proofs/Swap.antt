@@ -16,7 +16,7 @@ use Rattle.dsm_invariant.specs.View.{Does}
 use Rattle.dsm_invariant.specs.Control.{Tailed, empty, last, Link, none, Old, Pred, first, after, Seat, Real, ThreadFacts, Control}
 use Rattle.object.proofs.Choice.{by-equal}
 use Rattle.invariant.proofs.Upd.{upd-same, upd-other}
-use Rattle.dsm_invariant.proofs.Basics.{waits-new}
+use Rattle.invariant.proofs.Waits.{waits-new}
 use Rattle.dsm_invariant.proofs.Places.{queued-in, known, mine-old}
 use Rattle.dsm_invariant.proofs.Stable.{Grown, kept-same, fields-in, rely-still, place-same, link-stable, old-stable, facts-stable}
 use Rattle.dsm_invariant.proofs.Frame.{kept}

@@ -128,9 +128,9 @@ module _ {n h : ℕ} {v : View} {g : Ledger} (c : Control n h v g) where
       go nowhere f y = y
 
   -- at 9 myPredNode is not null, so null is followed at 26 alone, and put into tmpNode at 21
-  pub follows-at : (u k : ℕ) (x : Node) → u < n → v .thread u .line ≡ standsAt k
+  pub meets-at : (u k : ℕ) (x : Node) → u < n → v .thread u .line ≡ standsAt k
       → meetsNull (v .thread u) x k ≡ ((eqb k 21 || eqb k 26) && isNull (x .next))
-  follows-at u k x below e =
+  meets-at u k x below e =
       by-equal k 9 (λ q. rw (q, ne-eqb (v .thread u .pred .0) 255 (facts-at c u 9 below (rw q at e) .1 .gate .0))) (λ q. rw (ne-eqb k 9 q))
 
   -- myNode is the thread's own from line 3 on

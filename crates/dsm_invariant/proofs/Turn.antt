@@ -14,15 +14,17 @@ use Rattle.dsm_synch.specs.Effect.{goes}
 use Rattle.invariant.specs.View.{View}
 use Rattle.dsm_invariant.specs.Ledger.{Ledger, nodeAt, noted}
 use Rattle.dsm_invariant.specs.View.{emptied, Does}
-use Rattle.dsm_invariant.specs.Control.{waits, Tailed, empty, last, Link, none, right, CombineRow, CombineFacts, Control}
+use Rattle.invariant.specs.Waits.{waits}
+use Rattle.dsm_invariant.specs.Control.{Tailed, empty, last, Link, none, right, CombineRow, CombineFacts, Control}
 use Rattle.object.proofs.Choice.{either, both-fail}
-use Rattle.dsm_invariant.proofs.Basics.{waits-below, waits-turn, waits-same, waits-same-turn}
+use Rattle.invariant.proofs.Waits.{waits-below, waits-same, waits-turn, turn-neither}
 use Rattle.dsm_invariant.proofs.Places.{places-apart, place-range, place-exists, known}
 use Rattle.dsm_invariant.proofs.Ways.{moves, forks, far, serves}
 
 -- the turn goes on from a released position: another that does not get it waits as before
 waits-else : (g : Ledger) (given : Bool) (i : ℕ) → g .b < g .r → (i ≡ g .a → ⊥) → waits (g .r) (g .b) (g .given) i ≡ waits (g .r) (g .a) given i
-waits-else g given i past apart = waits-same (g .r) (g .b) (g .given) (g .r) (g .a) given i (λ z. z) (λ z. z) (λ z w. omega arith) (λ z. apart)
+waits-else g given i past apart =
+    waits-same (g .r) (g .b) (g .given) (g .r) (g .a) given i (λ z. z) (λ z. z) (λ z. turn-neither (g .b) (g .given) (g .a) given i (λ w. omega arith) apart)
 
 -- what a combiner knows of tmpNode, the node of position k
 module _ {n h : ℕ} {v : View} {g : Ledger} (c : Control n h v g) {row : CombineRow} {i tmp served : ℕ} (f : CombineFacts row h g i tmp served) where
@@ -64,7 +66,7 @@ module _ {n h : ℕ} {v v′ : View} {g : Ledger} {t : ℕ} {request : Request} 
       let free = sym (waits-below (suc (g .r)) (g .b) (g .given) (g .k) (omega (arith, f .released))) in
       serves c run 19 refl tt tt f (g .k) (g .a) (g .d) (suc (g .r)) (g .b) (g .k) (g .given)
       (omega (arith, f, c .order)) (f .serving) refl (λ y. search (y, free))
-      (λ i k e. waits-same-turn (g .r) (g .b) (g .given) (suc (g .r)) i (λ z. omega arith) (λ z. omega (arith, f .released)))
+      (λ i k e. waits-same (g .r) (g .b) (g .given) (suc (g .r)) (g .b) (g .given) i (λ z. omega arith) (λ z. omega (arith, f .released)) (λ z. refl))
       (λ x i. (i, search (arith, f))) refl (omega (arith, f, c .order))
 
   -- line 19 goes on below h; what it reads of the nodes tells nothing that lasts

@@ -16,7 +16,8 @@ use Rattle.invariant.specs.View.{View}
 use Rattle.dsm_invariant.specs.Stages.{stageOf, queued}
 use Rattle.dsm_invariant.specs.Ledger.{Ledger, numberOf, nodeAt, going, counting}
 use Rattle.dsm_invariant.specs.View.{goal, does, Does}
-use Rattle.dsm_invariant.specs.Control.{waits, Order, Tailed, Link, In, Old, preparing, Even, CombineRow, CombineFacts, ThreadFacts, Control}
+use Rattle.invariant.specs.Waits.{waits}
+use Rattle.dsm_invariant.specs.Control.{Order, Tailed, Link, In, Old, preparing, Even, CombineRow, CombineFacts, ThreadFacts, Control}
 use Rattle.object.proofs.Choice.{by-equal, by-test}
 use Rattle.invariant.proofs.Waits.{ltb-same}
 use Rattle.dsm_invariant.proofs.Basics.{thread-told}

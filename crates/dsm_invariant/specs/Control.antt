@@ -1,17 +1,14 @@
 -- The invariant of a DSM-Synch run's lines, nodes and Tail, by the ledger. Nodes are told by their numbers; null is 255.
 use Prim.Native.Nat.{ℕ, suc, _+_, _-_, _*_, _≤_, _<_}
 use mathlib.Core.Path.{_≡_}
-use mathlib.Core.Bool.{Bool, true, false, not, _||_, _&&_}
-use lib.Dec.{T, ltb, eqb}
+use mathlib.Core.Bool.{Bool, true, false, not}
+use lib.Dec.{T, ltb}
 use Rattle.machine.specs.declared.Node.{Node}
 use Rattle.machine.specs.declared.Thread.{Thread}
 use Rattle.invariant.specs.View.{View}
+use Rattle.invariant.specs.Waits.{waits}
 use Rattle.dsm_invariant.specs.Stages.{Out, idle, o2, o3, o4, o5, o6, o7, Wait, w8, w9, w10, w11, w12, w13, Combine, c14, c15, c16, c17, c18, c19, c20, c21, c22, c23, c25, c26, Stage, out, wait, combine, leave, nowhere, stageOf, queued}
 use Rattle.dsm_invariant.specs.Ledger.{Ledger, numberOf, nodeAt}
-
--- a position waits until it is released, or is given the turn
-abbrev pub waits : ℕ → ℕ → Bool → ℕ → Bool
-waits r b given i = not (ltb i r || eqb i b && given)
 
 pub record Order (g : Ledger) : Type 0 where
   pub turn : g .b ≤ g .k

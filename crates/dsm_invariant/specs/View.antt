@@ -31,7 +31,7 @@ module _ (v : View) (t : ℕ) (l : Line) where
   abbrev pub does : ℕ → Request → Answer → Effect
   does h request answer = executed t (v .thread t) first behind (v .tail) h request answer l
 
--- thread t of n runs line l, which follows no null and puts none into tmpNode, and v becomes v′
+-- thread t of n runs line l, which meets no null, and v becomes v′
 pub record Does (n h : ℕ) (v v′ : View) (t : ℕ) (l : Line) (request : Request) (answer : Answer) : Type 0 where
   pub below : t < n
   pub stands : v .thread t .line ≡ standsAt (number l)

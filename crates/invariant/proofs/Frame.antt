@@ -17,7 +17,7 @@ use Rattle.invariant.specs.View.{View, does, goal, Does}
 use Rattle.invariant.specs.Control.{holding, slot, slotOfThread, held, NodeFields, StageFacts, Queued, Order, Seat, Control}
 use Rattle.object.proofs.Choice.{by-equal}
 use Rattle.invariant.proofs.Slots.{slot-thread, slot-same, atTurn, turn-queued}
-use Rattle.invariant.proofs.Waits.{waits-same, ltb-same}
+use Rattle.invariant.proofs.Waits.{waits-same, turn-same, ltb-same}
 use Rattle.invariant.proofs.Seats.{stage-at, holds, queued-slot, seats-apart, node-of, owner, whose, turn-at}
 use Rattle.invariant.proofs.Stable.{Grown, Rely, slot-stable, fields-same}
 
@@ -188,7 +188,8 @@ module _ {n h : ℕ} {v v′ : View} {g : Ledger} {t : ℕ} {l : Line} {request 
           (λ e. rw (node-of c u k q, e, ← at, run .there) there)
           (λ e. rw (away _ (λ z. e (whose c u (g .r) k (omega arith) top z)))
           (fields-same g _ _ _ refl (λ z. refl)
-          (waits-same (g .r) (g .b) r b (g .at u) (λ z. omega (arith, counts .released)) (counts .waiting _ e) (counts .turning _ e) (counts .turn _ e))
+          (waits-same (g .r) (g .b) true r b true (g .at u) (λ z. omega (arith, counts .released)) (counts .waiting _ e)
+          (λ z. turn-same (g .b) b true (g .at u) (counts .turning _ e z) (counts .turn _ e z)))
           (ltb-same (g .at u) (g .d) d (counts .marked _ e) (counts .left _ e))
           (queued-slot c u k q .fields)))
 

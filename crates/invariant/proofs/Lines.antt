@@ -73,12 +73,12 @@ module _ (n h : ℕ) (small : n ≤ 16) (some : 0 < h) (v v′ : View) (g : Ledg
   answers run true e =
       let f = knows run in
       let done = ltb-true (g .at t) (g .d) (sym (f .0 .fields .completed) ∙ e) in
-      let released = waits-free (g .r) (g .b) (g .at t) (f .1 .free tt) (λ z. omega (arith, f .1 .even z, c .order)) in
+      let released = waits-free (g .r) (g .b) true (g .at t) (f .1 .free tt) (λ z. omega (arith, f .1 .even z, c .order)) in
       home c run (goes th 11) (ap (λ z. goes th (cond z 11 12)) e) refl tt refl no-links (kept run refl _) (λ q k. tt) (search (arith, absurd, f))
   answers run false e =
       let f = knows run in
       let left = ltb-false (g .at t) (g .d) (sym (f .0 .fields .completed) ∙ e) in
-      let turn = waits-held (g .r) (g .b) (g .at t) (f .1 .free tt) (omega (arith, c .order)) in
+      let turn = waits-held (g .r) (g .b) true (g .at t) (f .1 .free tt) (omega (arith, c .order)) in
       home c run (goes th 12) (ap (λ z. goes th (cond z 11 12)) e) refl tt refl no-links (kept run refl _) (λ q k. tt) (search (arith, absurd, f))
 
   -- line 12: the turn begins at the thread's own position
@@ -151,7 +151,7 @@ module _ (n h : ℕ) (small : n ≤ 16) (some : 0 < h) (v v′ : View) (g : Ledg
       let e = f .1 .1 .serving in
       let p = serving e in
       let next = f .1 .1 .next tt in
-      let free = sym (waits-below (suc (g .r)) (g .b) (g .r) (omega arith)) in
+      let free = sym (waits-below (suc (g .r)) (g .b) true (g .r) (omega arith)) in
       far c run _ refl refl tt refl (g .a) (g .d) (suc (g .r)) (g .b) tt tt e (omega (arith, f, c .order)) (search (p, free)) (λ y q. (q, search (arith, f, c .order)))
 
   passes : Run L20 → Control n h v′ (noted n t (th .own .0) g L20)
@@ -160,7 +160,7 @@ module _ (n h : ℕ) (small : n ≤ 16) (some : 0 < h) (v v′ : View) (g : Ledg
       let e = f .1 .1 .serving in
       let p = serving e in
       let past = f .1 .1 .past tt in
-      let free = sym (waits-turn (g .r) (g .a) (g .r) (omega (arith, f .1 .1 .applied))) in
+      let free = sym (waits-turn (g .r) (g .a) true (g .r) (omega (arith, f .1 .1 .applied)) refl) in
       far c run _ refl refl tt refl (g .a) (g .d) (g .r) (g .a) tt tt e (omega (arith, f, c .order)) (search (p, free)) (λ y q. (q, search (arith, f)))
 
   -- the invariant is kept, by line

@@ -8,7 +8,8 @@ use Rattle.machine.specs.declared.Node.{Node}
 use Rattle.invariant.specs.Stages.{Stage, Combine, c13, c14, c15, c16, c17, c18, c20, out, wait, combine, l19, l21, dummy, queued}
 use Rattle.invariant.specs.Ledger.{Ledger}
 use Rattle.invariant.specs.View.{View}
-use Rattle.invariant.specs.Control.{Slot, slot, held, waits, NodeFields, Queued, Even, WaitRow, WaitFacts, CombineFacts, combineRow, Turn, Facts19, Facts21, DummyFacts, StageFacts, Order, Control}
+use Rattle.invariant.specs.Waits.{waits}
+use Rattle.invariant.specs.Control.{Slot, slot, held, NodeFields, Queued, Even, WaitRow, WaitFacts, CombineFacts, combineRow, Turn, Facts19, Facts21, DummyFacts, StageFacts, Order, Control}
 use Rattle.object.proofs.Choice.{by-equal}
 use Rattle.invariant.proofs.Waits.{waits-below, waits-free}
 use Rattle.invariant.proofs.Seats.{linked-below}
@@ -42,7 +43,7 @@ pub record Rely (g g′ : Ledger) (u : ℕ) (y : Node) : Type 0 where
 pub fields-same : (g g′ : Ledger) (i : ℕ) (y : Node)
     → g′ .linked i ≡ g .linked i
     → (g .linked i ≡ true → g′ .node (suc i) ≡ g .node (suc i))
-    → waits (g .r) (g .b) i ≡ waits (g′ .r) (g′ .b) i
+    → waits (g .r) (g .b) true i ≡ waits (g′ .r) (g′ .b) true i
     → ltb i (g .d) ≡ ltb i (g′ .d)
     → NodeFields g i y
     → NodeFields g′ i y
@@ -75,11 +76,11 @@ module _ (g g′ : Ledger) (order : Order g) (below : g .linked (g .r) ≡ true 
         (λ i. let s = rely .still i in let f = e i in (omega (arith, s, f), omega (arith, s, f)))
         (rely .even k)
 
-    free-stable : waits (g .r) (g .b) (g .at u) ≡ false → waits (g′ .r) (g′ .b) (g .at u) ≡ false
+    free-stable : waits (g .r) (g .b) true (g .at u) ≡ false → waits (g′ .r) (g′ .b) true (g .at u) ≡ false
     free-stable f =
         by-equal (g .at u) (g .b)
         (λ i. let s = rely .still i in rw (s .r, s .b) f)
-        (λ i. waits-below (g′ .r) (g′ .b) (g .at u) (omega (arith, waits-free (g .r) (g .b) (g .at u) f i, grown .r)))
+        (λ i. waits-below (g′ .r) (g′ .b) true (g .at u) (omega (arith, waits-free (g .r) (g .b) true (g .at u) f i, grown .r)))
 
     wait-stable : (row : WaitRow) (own cur served : ℕ) → WaitFacts row g (g .at u) own cur served → WaitFacts row g′ (g .at u) own cur served
     wait-stable row own cur served f = record {

@@ -2,7 +2,7 @@
 use Prim.Native.Nat.{ℕ, suc, _≤_, _<_}
 use native.Mathlib.Omega.{arith}
 use mathlib.Core.Path.{_≡_, refl, sym, _∙_, ap}
-use mathlib.Core.Bool.{false, false≢true}
+use mathlib.Core.Bool.{true, false, false≢true}
 use lib.Dec.{T}
 use borrow.Author.Tests.{le-ltb}
 use Rattle.object.specs.declared.Request.{Request}
@@ -136,7 +136,7 @@ module _ {n h : ℕ} {v v′ : View} {g : Ledger} {t : ℕ} {request : Request} 
           node = rw at-tail (upd-same _ _ _);
           fields = rw at-tail (record {
             next = rw l (o .next tt);
-            wait = o .wait tt ∙ sym (waits-beyond (g .r) (g .b) (suc (g .s)) (omega (arith, c .order)) (λ e. omega (arith, c .order)));
+            wait = o .wait tt ∙ sym (waits-beyond (g .r) (g .b) true (suc (g .s)) (omega (arith, c .order)) (λ e. omega (arith, c .order)));
             completed = o .completed tt ∙ sym (le-ltb (suc (g .s)) (g .d) (omega (arith, c .order)));
           });
         },

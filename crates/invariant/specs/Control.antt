@@ -1,13 +1,14 @@
 -- The invariant of lines, nodes and Tail: what holds of every slot after every entry, by the ledger.
 use Prim.Native.Nat.{ℕ, suc, _+_, _≤_, _<_}
 use mathlib.Core.Path.{_≡_}
-use mathlib.Core.Bool.{Bool, true, false, cond, not, _||_}
+use mathlib.Core.Bool.{Bool, true, false, cond}
 use lib.Dec.{T, ltb, eqb}
 use Rattle.machine.specs.declared.Node.{Node}
 use Rattle.machine.specs.declared.Thread.{Thread}
 use Rattle.invariant.specs.Stages.{Stage, Out, Wait, Combine, idle, o2, o3, o4, o5, w6, w7, w8, w9, w10, w11, w12, c13, c14, c15, c16, c17, c18, c20, out, wait, combine, l19, l21, dummy, stageOf, queued, isThread}
 use Rattle.invariant.specs.Ledger.{Ledger}
 use Rattle.invariant.specs.View.{View}
+use Rattle.invariant.specs.Waits.{waits}
 
 -- a slot: a thread, or Tail as slot n; the numbers of its nodes, and the served counter
 pub record Slot : Type 0 where
@@ -41,14 +42,10 @@ holding s th = cond (queued s) (th .cur .0) (th .own .0)
 abbrev pub held : Slot → ℕ
 held x = cond (queued (x .stage)) (x .cur) (x .own)
 
--- a position waits until it is released or has the turn
-abbrev pub waits : ℕ → ℕ → ℕ → Bool
-waits r b i = not (ltb i r || eqb i b)
-
 -- the fields of a position's node
 pub record NodeFields (g : Ledger) (i : ℕ) (x : Node) : Type 0 where
   pub next : x .next .0 ≡ cond (g .linked i) (g .node (suc i)) 255
-  pub wait : x .wait ≡ waits (g .r) (g .b) i
+  pub wait : x .wait ≡ waits (g .r) (g .b) true i
   pub completed : x .completed ≡ ltb i (g .d)
 
 -- before Swap: what is already written into the own node, and whether a call has begun
@@ -106,7 +103,7 @@ pub record WaitFacts (row : WaitRow) (g : Ledger) (i own cur served : ℕ) : Typ
   pub linked : g .linked i ≡ row .linked
   pub swapped : T (row .swapped) → own ≡ g .node (suc i)
   pub home : T (row .home) → own ≡ cur
-  pub free : T (row .free) → waits (g .r) (g .b) i ≡ false
+  pub free : T (row .free) → waits (g .r) (g .b) true i ≡ false
   pub released : T (row .released) → i < g .r
   pub turn : T (row .turn) → i ≡ g .b
   pub even : Even g i

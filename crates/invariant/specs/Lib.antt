@@ -5,3 +5,4 @@ pub mod Remote
 pub mod Serving
 pub mod Stages
 pub mod View
+pub mod Waits
