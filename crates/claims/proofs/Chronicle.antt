@@ -1,11 +1,11 @@
 -- What the entries of a file's run say, by whichever method: the laws of a history, with the file's requests and the answers given, and that every entry
 -- keeps them. Assumes of an entry that it moves as a history asks, and what `Shows` says. Nothing here looks at a printed line.
-use Prim.Native.Nat.{ℕ, suc, _+_, _-_, _≤_, _<_}
+use Prim.Native.Nat.{ℕ, _+_, _-_, _≤_, _<_}
 use native.Mathlib.Omega.{arith}
 use mathlib.Core.Path.{_≡_, refl, sym, ap, _∙_}
 use mathlib.Core.Bool.{Bool, true, false, cond, and-false}
 use mathlib.Core.List.{List, [], _∷_, _++_, map, map-append, append-nil}
-use lib.ListN.{length, getD, take, length-map, length-append}
+use lib.ListN.{length, getD, length-map}
 use borrow.Author.Tests.{eqb-true, le-ltb}
 use Rattle.object.specs.declared.Request.{Request}
 use Rattle.object.specs.declared.Request.the-variants.{Put}
@@ -44,12 +44,12 @@ abbrev pub jobsOf : Fields → List Entry → List Request
 jobsOf f past = map (askedBy f) (swapOrder past)
 
 -- what a method claims of a returned call: whether it combined, how many its turn then served, and its remote references
-module _ (Bounded : Bool → ℕ → ℕ → Type 0) where
+module _ (Paid : Bool → ℕ → ℕ → Type 0) where
   -- threads as they are seen, positions, the cost of each thread's open call, the answers given and the entries so far
   pub record Chronicle (f : Fields) (x : Seen) (p : Positions) (cost : ℕ → ℕ) (answers : List Answer) (past : List Entry) : Type 0 where
     pub swaps : SwapOrder (f .head .n) x p past
     pub turns : Turns (f .head .n) (f .head .h) x p past
-    pub calls : Calls Bounded (f .head .n) x p cost past
+    pub calls : Calls Paid (f .head .n) x p cost past
     pub times : Times (f .head .n) x p past
     pub order : p .a ≤ p .s
     pub one-turn : (u w : ℕ) → u < f .head .n → w < f .head .n → x .phase u ≡ combining → x .phase w ≡ combining → u ≡ w
@@ -72,8 +72,8 @@ module _ (Bounded : Bool → ℕ → ℕ → Type 0) where
     pub gives : Is Applies e → e .answer ≡ Answered answer
     -- one that returns has the answer at its thread's position, and what its call has cost is as the method claims
     pub returns : Is Returns e → e .ret ≡ Answered (getD answers (p .at t) Empty)
-    pub by-another : Is Returns e → x .phase t ≡ waiting → Bounded false 0 (cost t + remoteIn (e .remote))
-    pub by-itself : Is Returns e → x .phase t ≡ leaving → Bounded true (x .counter t) (cost t + remoteIn (e .remote))
+    pub by-another : Is Returns e → x .phase t ≡ waiting → Paid false 0 (cost t + remoteIn (e .remote))
+    pub by-itself : Is Returns e → x .phase t ≡ leaving → Paid true (x .counter t) (cost t + remoteIn (e .remote))
     -- a blank comes with no request left, a call begins with one
     pub none-left : Is Blank e → length (askedOf f (threadId t)) ≤ x .begun t
     pub some-left : Is CallBegins e → x .begun t < length (askedOf f (threadId t))
@@ -87,7 +87,7 @@ module _ (Bounded : Bool → ℕ → ℕ → Type 0) where
   chronicle-fresh f x p cost still none s a = record {
     swaps = swaps-fresh (f .head .n) x p still none s a;
     turns = turns-fresh (f .head .n) (f .head .h) x p still;
-    calls = calls-fresh Bounded (f .head .n) x p cost still;
+    calls = calls-fresh Paid (f .head .n) x p cost still;
     times = times-fresh (f .head .n) x p none s;
     order = omega arith;
     one-turn = λ u w b b′ z y. absurd (omega (arith, still u b));
@@ -144,9 +144,9 @@ module _ {n h : ℕ} {x x′ : Seen} {p p′ : Positions} {t : ℕ} {e : Entry} 
         ap (askedBy f) (of-last moved swaps)
         ∙ ap (λ (b : ℕ). asks f t (b - 1)) (goes moved .same (λ q. omega (arith, eqb-true (eventNumber (e .event)) 2 z)))
 
-module _ {Bounded : Bool → ℕ → ℕ → Type 0} {f : Fields} {x x′ : Seen} {p p′ : Positions} {cost cost′ : ℕ → ℕ} {answers : List Answer} {past : List Entry} {t : ℕ}
-    {e : Entry} {answer : Answer} (moved : Moves (f .head .n) (f .head .h) x x′ p p′ t e) (now : Chronicle Bounded f x p cost answers past)
-    (shows : Shows Bounded f x p cost cost′ answers past t e answer) where
+module _ {Paid : Bool → ℕ → ℕ → Type 0} {f : Fields} {x x′ : Seen} {p p′ : Positions} {cost cost′ : ℕ → ℕ} {answers : List Answer} {past : List Entry} {t : ℕ}
+    {e : Entry} {answer : Answer} (moved : Moves (f .head .n) (f .head .h) x x′ p p′ t e) (now : Chronicle Paid f x p cost answers past)
+    (shows : Shows Paid f x p cost cost′ answers past t e answer) where
   begun-next : (u : ℕ) → u < f .head .n → x′ .begun u ≤ length (askedOf f (threadId u))
   begun-next u b =
       by-equal u t
@@ -205,17 +205,17 @@ module _ {Bounded : Bool → ℕ → ℕ → Type 0} {f : Fields} {x x′ : Seen
   -- an entry is of a call that has not returned
   open-yet : (Is Blank e → ⊥) → returned (callOf e past) past ≡ false
   open-yet =
-      still-open Bounded moved (now .swaps) (now .turns) (now .calls) (shows .spends) (shows .keeps) returns-answer (shows .by-another) (shows .by-itself)
+      still-open Paid moved (now .swaps) (now .turns) (now .calls) (shows .spends) (shows .keeps) returns-answer (shows .by-another) (shows .by-itself)
 
   over-next : happened afterReturn (e ∷ past) ≡ false
   over-next = by-event e Blank (λ q. rw (is-so e Blank q) (now .over)) (λ q. rw (open-yet q, and-false) (now .over))
 
-  pub chronicle-next : Chronicle Bounded f x′ p′ cost′ (grown (is Applies e) answers answer) (e ∷ past)
+  pub chronicle-next : Chronicle Paid f x′ p′ cost′ (grown (is Applies e) answers answer) (e ∷ past)
   chronicle-next = record {
     swaps = swaps-kept moved (now .swaps);
     turns = turns-kept past moved (now .turns);
     calls =
-        calls-kept Bounded moved (now .swaps) (now .turns) (now .calls) (shows .spends) (shows .keeps) returns-answer (shows .by-another) (shows .by-itself);
+        calls-kept Paid moved (now .swaps) (now .turns) (now .calls) (shows .spends) (shows .keeps) returns-answer (shows .by-another) (shows .by-itself);
     times = times-kept moved (now .swaps) open-yet (now .times);
     order = order-next moved;
     one-turn = one-turn-next moved;

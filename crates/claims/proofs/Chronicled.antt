@@ -19,13 +19,13 @@ use Rattle.history.specs.History.{Settled}
 use Rattle.claims.specs.Claims.{CostByAnother, CostCombining}
 use Rattle.claims.proofs.Chronicle.{jobsOf, Chronicle}
 
-module _ (Bounded : Bool → ℕ → ℕ → Type 0) where
+module _ (Paid : Bool → ℕ → ℕ → Type 0) where
   pub record Chronicled (m : Method) (f : Fields) (s : State) (past : List Entry) : Type 0 where
     pub seen : Seen
     pub positions : Positions
     pub cost : ℕ → ℕ
     pub answers : List Answer
-    pub chronicle : Chronicle Bounded f seen positions cost answers past
+    pub chronicle : Chronicle Paid f seen positions cost answers past
     -- the answers given are the plain object's, fed the requests applied
     pub fed : Fed (f .head .object) (f .head .capacity) (jobsOf f past) answers (positions .a) (s .object)
     pub said : RemoteAsSaid m past
@@ -34,5 +34,5 @@ module _ (Bounded : Bool → ℕ → ℕ → Type 0) where
     pub busy-line : (u : ℕ) → u < f .head .n → 0 < seen .phase u → getD (s .threads) u zeroThread .line ≡ 0 → ⊥
     pub begun : (u : ℕ) → u < f .head .n → seen .begun u ≡ getD (s .threads) u zeroThread .begun
     -- the method's bounds give what is claimed of a returned call
-    pub by-another : (c : Call) → Settled Bounded (f .head .n) seen positions past c → combined c past ≡ false → CostByAnother m past c
-    pub combining : (c : Call) → Settled Bounded (f .head .n) seen positions past c → combined c past ≡ true → CostCombining m past c
+    pub by-another : (c : Call) → Settled Paid (f .head .n) seen positions past c → combined c past ≡ false → CostByAnother m past c
+    pub combining : (c : Call) → Settled Paid (f .head .n) seen positions past c → combined c past ≡ true → CostCombining m past c

@@ -68,15 +68,15 @@ always s (t ∷ schedule) = (tt, always (entered s (threadId t)) schedule)
 
 -- of DSM-Synch that it meets no null
 abbrev pub NoNull : State → ThreadId → Type 0
-NoNull s t = dsm.null-met s t ≡ false
+NoNull s t = dsm.nullMet s t ≡ false
 
 pub none-met : (s : State) (schedule : List ℕ) → meetsNoNull s schedule ≡ true → AllOk DsmSynch NoNull s schedule
 unfolding meetsNoNull
 none-met s [] none = tt
 none-met s (t ∷ schedule) none =
     let now : ThreadId = threadId t in
-    let both = and-eq-true-iff (not (dsm.null-met s now)) (meetsNoNull (dsm.entered s now) schedule) .0 none in
-    (not-true (dsm.null-met s now) (both .0), none-met (dsm.entered s now) schedule (both .1))
+    let both = and-eq-true-iff (not (dsm.nullMet s now)) (meetsNoNull (dsm.entered s now) schedule) .0 none in
+    (not-true (dsm.nullMet s now) (both .0), none-met (dsm.entered s now) schedule (both .1))
 
 -- what holds of a state and of the entries before it, the latest first, is kept by every entry of a thread below n of which what is asked holds, while there are
 -- fewer than `most`

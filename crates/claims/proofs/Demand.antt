@@ -9,9 +9,11 @@ use Rattle.bench_file.specs.Layout.{Fields}
 use Rattle.bench_file.specs.Bytes.{InRange}
 use Rattle.machine.specs.declared.Method.{Method}
 use Rattle.state.specs.declared.State.{State}
+use Rattle.state.specs.Range.{countsInRange}
 use Rattle.history.specs.Entries.{Entry}
+use Rattle.history.proofs.Sums.{counts-fit}
 use Rattle.claims.specs.Entries.{startBy, stateAfter, entriesBy}
-use Rattle.claims.specs.Claims.{Unrefused, OwnNever, Demand3At}
+use Rattle.claims.specs.Claims.{NoOtherRefusal, OwnNever, Demand3At}
 use Rattle.claims.proofs.Chronicled.{Chronicled}
 use Rattle.claims.proofs.Cut.{entries-named, stopped, cut-in-range}
 use Rattle.claims.proofs.Left.{closed}
@@ -19,21 +21,22 @@ use Rattle.claims.proofs.Numbered.{began-there, returned-there}
 use Rattle.claims.proofs.Parts.{claim}
 use Rattle.claims.proofs.Run.{Going}
 
-module _ (Bounded : Bool → ℕ → ℕ → Type 0) (m : Method) (f : Fields) (fits : InRange f) (j : ℕ) where
+module _ (Paid : Bool → ℕ → ℕ → Type 0) (m : Method) (f : Fields) (fits : InRange f) (j : ℕ) where
   abbrev after : State
   after = stateAfter m (startBy m f) (take j (f .schedule))
 
   abbrev history : List Entry
   history = reverse (take j (entriesBy m f))
 
-  pub demand-3-from : Going m f after history → Chronicled Bounded m f after history → Unrefused m f j after → OwnNever m history → Demand3At m f j
+  pub demand-3-from : Going m f after history → Chronicled Paid m f after history → NoOtherRefusal m f j after → OwnNever m history → Demand3At m f j
   demand-3-from going kept unrefused own-never = record {
-    claim = claim Bounded m f fits after history going kept;
+    claim = claim Paid m f fits after history going kept;
     steps = unrefused;
     own-never = own-never;
     counts = going .counted .counts;
+    counts-fit = ap countsInRange (going .counted .counts) ∙ counts-fit history (going .counted .few) (going .short);
     begun = λ t below. sym (kept .begun (t .0) below) ∙ sym (kept .chronicle .swaps .begun (t .0) below);
-    closed = closed Bounded m f after history kept;
+    closed = closed Paid m f after history kept;
     entries =
         ap (map (λ (e : Entry). e .thread .0)) (reverse-reverse (take j (entriesBy m f)) ∙ sym (stopped m f j))
         ∙ entries-named m (startBy m f) (take j (f .schedule));

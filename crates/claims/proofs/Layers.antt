@@ -61,9 +61,9 @@ use Rattle.claims.proofs.Telling.{entry-tells}
 use Rattle.claims.proofs.Told.{tells-of}
 
 -- what CC-Synch claims of a returned call that combined or not, its turn having served k
-abbrev pub Bounded : Bool → ℕ → ℕ → Type 0
-Bounded true k cost = cost ≤ mostCombining k
-Bounded false k cost = cost ≤ mostByAnother
+abbrev pub Paid : Bool → ℕ → ℕ → Type 0
+Paid true k cost = cost ≤ mostCombining k
+Paid false k cost = cost ≤ mostByAnother
 
 -- a state of a file's run and its entries, a ledger for it, the cost of each thread's open call and the answers given: all layers hold
 pub record Layers (f : Fields) (s : State) (past : List Entry) : Type 0 where
@@ -74,14 +74,14 @@ pub record Layers (f : Fields) (s : State) (past : List Entry) : Type 0 where
   pub control : Control (s .n) (s .h) (viewOf s) ledger
   pub remote : Remote (s .n) (viewOf s) ledger (s .copies) cost
   pub object : Data (s .n) (asks f) (s .kind) (s .capacity) (viewOf s) ledger (jobsOf f past) answers (s .object)
-  pub chronicle : Chronicle Bounded f (seenOf (viewOf s)) (positionsOf ledger) cost answers past
+  pub chronicle : Chronicle Paid f (seenOf (viewOf s)) (positionsOf ledger) cost answers past
   pub copies : CopiesSaid (s .n) (s .copies) past
   pub said : RemoteAsSaid CcSynch past
   -- a thread has as many requests as its row of the file
   pub rows : (u : ℕ) → u < s .n → viewOf s .thread u .count ≡ length (askedOf f (threadId u))
 
 -- as the claim needs it: the bounds are those claimed
-pub chronicled : (f : Fields) (s : State) (past : List Entry) → Going CcSynch f s past → Layers f s past → Chronicled Bounded CcSynch f s past
+pub chronicled : (f : Fields) (s : State) (past : List Entry) → Going CcSynch f s past → Layers f s past → Chronicled Paid CcSynch f s past
 chronicled f s past going now = record {
   seen = seenOf (viewOf s);
   positions = positionsOf (now .ledger);
@@ -210,7 +210,7 @@ module _ (f : Fields) (fits : InRange f) (s : State) (past : List Entry) (t : Th
   some-begun : Is CallBegins e → named s t .begun < length (askedOf f t)
   some-begun q = omega (arith, now .rows (t .0) below, some-left s t (now .sound) below (sym number-l ∙ numbers l (node s t) .begins q))
 
-  shows : Shows Bounded f (seenOf (viewOf s)) (positionsOf (now .ledger)) (now .cost) costs (now .answers) past (t .0) e (applied s t .answer)
+  shows : Shows Paid f (seenOf (viewOf s)) (positionsOf (now .ledger)) (now .cost) costs (now .answers) past (t .0) e (applied s t .answer)
   shows = record {
     takes = λ q. entry-tells s t .takes q ∙ asks-next q;
     gives = entry-tells s t .answers;

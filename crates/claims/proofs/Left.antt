@@ -19,7 +19,7 @@ use Rattle.history.specs.Method.{idle}
 use Rattle.claims.specs.Claims.{leftBy}
 use Rattle.claims.proofs.Chronicled.{Chronicled}
 
-module _ (Bounded : Bool → ℕ → ℕ → Type 0) (m : Method) (f : Fields) (s : State) (history : List Entry) (now : Chronicled Bounded m f s history) (c : Call)
+module _ (Paid : Bool → ℕ → ℕ → Type 0) (m : Method) (f : Fields) (s : State) (history : List Entry) (now : Chronicled Paid m f s history) (c : Call)
     (below : c .thread .0 < f .head .n) where
   abbrev thread : Thread
   thread = getD (s .threads) (c .thread .0) zeroThread

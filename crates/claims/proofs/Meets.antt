@@ -176,7 +176,7 @@ one-turn {v} c u w j k p q =
 pub record Tells (v : View) (t : ℕ) (l : Line) (e : Entry) : Type 0 where
   pub thread : e .thread .0 ≡ t
   pub event : e .event ≡ eventIn (rowOf l .event) (v .node (goal v t l))
-  pub given : Is Swaps e → e .node .0 ≡ v .tail .0
+  pub assigned : Is Swaps e → e .node .0 ≡ v .tail .0
   pub serves : Is Applies e → e .node .0 ≡ goal v t l
 
 module _ {n h : ℕ} {v v′ : View} {g : Ledger} {t : ℕ} {l : Line} {request : Request} {answer : Answer} {e : Entry} (c : Control n h v g)
@@ -232,7 +232,7 @@ module _ {n h : ℕ} {v v′ : View} {g : Ledger} {t : ℕ} {l : Line} {request 
       a = notes n t (v .thread t .own .0) g l .a ∙ rw (tells .event) (ap (λ (k : ℕ). g .a + k) (one-applied l _));
       b = λ z. same-turn (λ q. z (by .end q));
       node = λ i z. node-kept n t _ g l i (omega arith);
-      new = λ q. node-kept n t _ g l (g .s) (omega arith) ∙ sym (tail-node c) ∙ sym (tells .given q);
+      new = λ q. node-kept n t _ g l (g .s) (omega arith) ∙ sym (tail-node c) ∙ sym (tells .assigned q);
       at-swap = λ q. at-swap n t _ g l (by .swap q) (run .below);
       at-kept = λ u z f. at-kept n t _ g l u z (λ x y. f x (by .swaps y));
     };
@@ -256,7 +256,7 @@ module _ {n h : ℕ} {v v′ : View} {g : Ledger} {t : ℕ} {l : Line} {request 
     waits = λ q u j apart p z. waits-served q u j apart (queued-line (v .thread u .line) p) z;
     turn-ends = λ q. let f = known c run (by .ends q) in omega (arith, f .1 .1 .applied, f .1 .1 .counted);
     not-given = λ q i low high z.
-        let same = positions-apart c i (g .s) (omega (arith, c .order)) (omega arith) (omega (arith, c .order)) (omega arith) (z ∙ tells .given q ∙ tail-node c) in
+        let same = positions-apart c i (g .s) (omega (arith, c .order)) (omega arith) (omega (arith, c .order)) (omega arith) (z ∙ tells .assigned q ∙ tail-node c) in
         omega arith;
     last = λ q. last-points c run (last-line q) .1;
   }

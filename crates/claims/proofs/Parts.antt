@@ -59,12 +59,12 @@ module _ (history : List Entry) where
       → take 2 (getD (recordsOf history) i []) ≡ getD (swapOrder history) i d .thread .0 ∷ getD (swapOrder history) i d .request ∷ []
   names i d k = rw (record-at history i d k)
 
-module _ (Bounded : Bool → ℕ → ℕ → Type 0) (m : Method) (f : Fields) (fits : InRange f) (s : State) (history : List Entry) (going : Going m f s history)
-    (kept : Chronicled Bounded m f s history) where
+module _ (Paid : Bool → ℕ → ℕ → Type 0) (m : Method) (f : Fields) (fits : InRange f) (s : State) (history : List Entry) (going : Going m f s history)
+    (kept : Chronicled Paid m f s history) where
   abbrev p : Positions
   p = kept .positions
 
-  abbrev now : Chronicle Bounded f (kept .seen) p (kept .cost) (kept .answers) history
+  abbrev now : Chronicle Paid f (kept .seen) p (kept .cost) (kept .answers) history
   now = kept .chronicle
 
   swaps-done : howMany Swaps history ≡ p .s
@@ -125,7 +125,7 @@ module _ (Bounded : Bool → ℕ → ℕ → Type 0) (m : Method) (f : Fields) (
       rw (plain-answer i k) at shows
 
   -- a returned call
-  settles : (c : Call) → Settled Bounded (f .head .n) (kept .seen) p history c → ReturnedCall m history c (shownOf c (servings history))
+  settles : (c : Call) → Settled Paid (f .head .n) (kept .seen) p history c → ReturnedCall m history c (shownOf c (servings history))
   settles c o =
       let is : shownOf c (servings history) ≡ shown (getD (servings history) (o .position) none) = rw (← o .call noCall) (shown-there (o .position) (o .applied)) in
       rw is (record {

@@ -47,7 +47,7 @@ module _ (s : State) (t : ThreadId) where
       tells-with t (event s t) (accesses s t) (remoteMarks CcSynch (s .n) (t .0) (s .copies) (accesses s t)) (s .tail) (s .tail) (target s t) (node s t)
       (applied s t .answer)
 
-  pub dsm-entry-tells : Telling (dsmEntryOf s t) (named s t .my) (s .tail) (dsm.first s t) (dsm.node s t) (dsm.applied s t .answer)
+  pub dsm-entry-tells : Telling (dsmEntryOf s t) (named s t .my) (s .tail) (dsm.pointsTo s t) (dsm.node s t) (dsm.applied s t .answer)
   dsm-entry-tells =
-      tells-with t (dsm.event s t) (dsm.made s t) (remoteMarks DsmSynch (s .n) (t .0) (s .copies) (dsm.made s t)) (named s t .my) (s .tail) (dsm.first s t)
+      tells-with t (dsm.event s t) (dsm.accesses s t) (remoteMarks DsmSynch (s .n) (t .0) (s .copies) (dsm.accesses s t)) (named s t .my) (s .tail) (dsm.pointsTo s t)
       (dsm.node s t) (dsm.applied s t .answer)

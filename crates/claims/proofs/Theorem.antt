@@ -29,7 +29,7 @@ use Rattle.claims.proofs.CopiesSaid.{copies-fresh}
 use Rattle.claims.proofs.Counted.{next-fits}
 use Rattle.claims.proofs.Cut.{Always, always, cut-in-range}
 use Rattle.claims.proofs.Demand.{demand-3-from}
-use Rattle.claims.proofs.Layers.{Layers, Bounded, chronicled, stays, layers-next}
+use Rattle.claims.proofs.Layers.{Layers, Paid, chronicled, stays, layers-next}
 use Rattle.claims.proofs.Run.{Going, going-start, goes-on, run-keeps}
 use Rattle.claims.proofs.Seen.{phaseOf, seenOf, positionsOf}
 use Rattle.claims.proofs.Start.{fresh-start, sound-start, thread-start}
@@ -51,7 +51,7 @@ module _ (f : Fields) (fits : InRange f) where
         remote = remote-fresh (fresh .line);
         object = data-fresh n (asks f) (f .head .object) (f .head .capacity) v (fresh .line);
         chronicle =
-            chronicle-fresh Bounded f (seenOf v) (positionsOf (freshLedger n)) (λ u. 0) (λ u b. ap phaseOf (fresh .line u b))
+            chronicle-fresh Paid f (seenOf v) (positionsOf (freshLedger n)) (λ u. 0) (λ u b. ap phaseOf (fresh .line u b))
             (λ u b. ap (λ (th : Thread). th .begun) (thread-start CcSynch f fits u b)) refl refl;
         copies = copies-fresh f;
         said = tt;
@@ -84,7 +84,7 @@ module _ (f : Fields) (fits : InRange f) where
   pub demand-3 : Demand3Of f
   demand-3 j =
       let kept = run-layers j in
-      demand-3-from Bounded CcSynch f fits j (kept .0) (chronicled f _ _ (kept .0) (kept .1)) (run-steps j) tt
+      demand-3-from Paid CcSynch f fits j (kept .0) (chronicled f _ _ (kept .0) (kept .1)) (run-steps j) tt
 
   -- after the last entry the claim is of the whole run
   pub claim-whole : Claimed f (historyOf f)

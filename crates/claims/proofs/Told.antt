@@ -14,6 +14,6 @@ pub tells-of : (s : State) (t : ThreadId) → Tells (viewOf s) (t .0) (lineOf (l
 tells-of s t = record {
   thread = refl;
   event = refl;
-  given = λ q. ap (λ (m : NodeId). m .0) (entry-tells s t .assigns q);
+  assigned = λ q. ap (λ (m : NodeId). m .0) (entry-tells s t .assigns q);
   serves = λ q. ap (λ (m : NodeId). m .0) (entry-tells s t .serves q);
 }

@@ -25,6 +25,7 @@ use Rattle.machine.specs.declared.RetVal.the-variants.{Answered}
 use Rattle.machine.specs.declared.Event.{Event}
 use Rattle.machine.specs.declared.Event.the-variants.{Blank, Swaps, TurnBegins, Applies}
 use Rattle.state.specs.declared.State.{State}
+use Rattle.state.specs.Range.{countsInRange}
 use Rattle.step.specs.Entry.{oneIf, zeroThread, line}
 use Rattle.step.specs.DsmEntry as dsm
 use Rattle.step.specs.Steps.{stepsOf}
@@ -182,14 +183,14 @@ leftBy s t = let thread = getD (s .threads) (t .0) zeroThread in thread .begun -
 
 -- of the causes of 14 that a line of DSM-Synch has, the entry of a thread has none but that it meets null, and that at line 21 or 26
 pub record NullAlone (s : State) (t : ThreadId) : Type 0 where
-  pub alone : dsm.out s t ≡ dsm.null-met s t
-  pub lines : dsm.null-met s t ≡ true → (eqb (line s t) 21 || eqb (line s t) 26) ≡ true
+  pub alone : dsm.out s t ≡ dsm.nullMet s t
+  pub lines : dsm.nullMet s t ≡ true → (eqb (line s t) 21 || eqb (line s t) 26) ≡ true
 
 -- 6, by the method, after the first j entries. Of CC-Synch no entry is refused: the run is the fold of the step. Of DSM-Synch, as long as no line meets null, the
 -- next entry's line, of whichever thread, has no other cause of 14, and only lines 21 and 26 meet null
-abbrev pub Unrefused : Method → Fields → ℕ → State → Type 0
-Unrefused CcSynch f j after = stepsOf (startOf f) (take j (f .schedule)) ≡ record { refusal = 0; state = after }
-Unrefused DsmSynch f j after = (t : ThreadId) → t .0 < f .head .n → NullAlone after t
+abbrev pub NoOtherRefusal : Method → Fields → ℕ → State → Type 0
+NoOtherRefusal CcSynch f j after = stepsOf (startOf f) (take j (f .schedule)) ≡ record { refusal = 0; state = after }
+NoOtherRefusal DsmSynch f j after = (t : ThreadId) → t .0 < f .head .n → NullAlone after t
 
 -- 5, of every Swap of DSM-Synch: it never gives a node of the caller's own
 abbrev pub OwnNever : Method → List Entry → Type 0
@@ -200,9 +201,10 @@ OwnNever DsmSynch history = happened givesOwn history ≡ false
 pub record Demand3 (m : Method) (f : Fields) (j : ℕ) (history : List Entry) (after : State) : Type 0 where
   pub claim : ClaimedBy m f history
   pub own-never : OwnNever m history
-  -- 6: no refusal; the machine's counts are those of the entries, it has begun the calls that they begin, and those have returned that it has left
-  pub steps : Unrefused m f j after
+  -- 6: no refusal; the machine's counts are those of the entries and have 32 bits, it has begun the calls that they begin, and those have returned that it has left
+  pub steps : NoOtherRefusal m f j after
   pub counts : after .counts ≡ countsOf history
+  pub counts-fit : countsInRange (after .counts) ≡ true
   pub begun : (t : ThreadId) → t .0 < f .head .n → getD (after .threads) (t .0) zeroThread .begun ≡ begunBy t history
   pub closed : (c : Call) → c .thread .0 < f .head .n → returned c history ≡ ltb (c .request) (leftBy after (c .thread))
   -- there is one entry for each of the schedule's first j, in their order, and the numbers of a call's entries are their places

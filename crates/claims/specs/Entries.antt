@@ -50,7 +50,7 @@ entryOf s t =
 -- by Algorithm 2: a Swap assigns the node that it puts in, myNode
 abbrev pub dsmEntryOf : State → ThreadId → Entry
 dsmEntryOf s t =
-    entryWith t (dsm.event s t) (dsm.made s t) (remoteMarks DsmSynch (s .n) (t .0) (s .copies) (dsm.made s t)) (assigned (named s t) (s .tail)) (s .tail) (dsm.first s t) (dsm.node s t)
+    entryWith t (dsm.event s t) (dsm.accesses s t) (remoteMarks DsmSynch (s .n) (t .0) (s .copies) (dsm.accesses s t)) (assigned (named s t) (s .tail)) (s .tail) (dsm.pointsTo s t) (dsm.node s t)
     (dsm.applied s t .answer)
 
 -- and by the method, with the state after it
@@ -92,7 +92,7 @@ stateAfter m s (t ∷ schedule) = stateAfter m (enteredBy m s (threadId t)) sche
 -- whether no entry of a schedule meets null, by DSM-Synch from a state
 unfoldable pub meetsNoNull : State → List ℕ → Bool
 meetsNoNull s [] = true
-meetsNoNull s (t ∷ schedule) = not (dsm.null-met s (threadId t)) && meetsNoNull (dsm.entered s (threadId t)) schedule
+meetsNoNull s (t ∷ schedule) = not (dsm.nullMet s (threadId t)) && meetsNoNull (dsm.entered s (threadId t)) schedule
 
 -- the entries of a file's run, the earliest first, and its history, the latest first
 abbrev pub entriesBy : Method → Fields → List Entry

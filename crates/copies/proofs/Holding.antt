@@ -24,7 +24,7 @@ place-injective tail (whole m) e = absurd (omega arith)
 place-injective (whole m) tail e = absurd (omega arith)
 place-injective (whole m) (whole m′) e = ap (λ (k : ℕ). whole (record { 0 = k })) (omega arith)
 
--- the accesses that end the other threads' copies, in document 01's words: a write or Swap; a CAS is one of either
+-- the accesses that end the other threads' copies, in document 01's words: a write or Swap; a CAS, which CC-Synch has none of, counts with them
 abbrev pub Ends : Access → Type 0
 Ends (read node field) = ⊥
 Ends (write node field) = Unit

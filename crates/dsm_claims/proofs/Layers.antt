@@ -1,10 +1,10 @@
 -- The whole invariant of a file's run by DSM-Synch, layer on layer, and that every entry keeps it that meets no null. Assumes fields in range.
 use Prim.Native.Nat.{ℕ, _+_, _≤_, _<_}
 use native.Mathlib.Omega.{arith}
-use mathlib.Core.Path.{_≡_, refl, sym, ap, subst, _∙_}
+use mathlib.Core.Path.{_≡_, sym, subst, _∙_}
 use mathlib.Core.Bool.{Bool, true, false, cond, _||_, and-eq-true-iff}
 use mathlib.Core.List.{List, _∷_}
-use lib.ListN.{length, getD}
+use lib.ListN.{length}
 use lib.Dec.{eqb}
 use borrow.Author.Tests.{eqb-true, eq-eqb, ne-eqb}
 use Rattle.object.specs.declared.Request.{Request}
@@ -20,7 +20,6 @@ use Rattle.machine.specs.declared.ThreadId.{ThreadId}
 use Rattle.machine.specs.declared.Event.{Event}
 use Rattle.machine.specs.declared.Event.the-variants.{Blank, CallBegins, Swaps, Applies, Returns}
 use Rattle.machine.specs.Fields.{isNull}
-use Rattle.machine.specs.Lines.{standsAt}
 use Rattle.machine.specs.Owners.{ownerOf}
 use Rattle.dsm_synch.specs.Lines.{Line, number}
 use Rattle.state.specs.declared.State.{State}
@@ -39,7 +38,7 @@ use Rattle.dsm_invariant.specs.Tip.{Tip}
 use Rattle.dsm_invariant.specs.Cost.{Cost}
 use Rattle.dsm_invariant.specs.Data.{Data}
 use Rattle.dsm_invariant.proofs.Bridge.{number-line, stands-so, some-left, none-left, does-of}
-use Rattle.dsm_invariant.proofs.Events.{Told, told}
+use Rattle.dsm_invariant.proofs.Events.{Told}
 use Rattle.dsm_invariant.proofs.Steps.{control-kept}
 use Rattle.dsm_invariant.proofs.Threads.{by-last, meets-at}
 use Rattle.dsm_invariant.proofs.Tip.{tip-kept, swap-gives}
@@ -58,14 +57,14 @@ use Rattle.claims.proofs.Counted.{remote-ones}
 use Rattle.claims.proofs.Run.{Going, request-going}
 use Rattle.claims.proofs.Start.{row-fits}
 use Rattle.claims.proofs.Telling.{dsm-entry-tells}
-use Rattle.dsm_claims.proofs.Meets.{last-line, count-kept, moves}
+use Rattle.dsm_claims.proofs.Meets.{by, at-line, last-line, count-kept, moves}
 use Rattle.dsm_claims.proofs.Seen.{phaseOf, seenOf, positionsOf}
 use Rattle.dsm_claims.proofs.Told.{tells-of}
 
 -- what DSM-Synch claims of a returned call: one that another served has cost 2; of one that combined nothing
-abbrev pub Bounded : Bool → ℕ → ℕ → Type 0
-Bounded true k cost = Unit
-Bounded false k cost = cost ≡ 2
+abbrev pub Paid : Bool → ℕ → ℕ → Type 0
+Paid true k cost = Unit
+Paid false k cost = cost ≡ 2
 
 -- a state of a file's run and its entries, a ledger for it, the cost of each thread's open call and the answers given: all layers hold
 pub record Layers (f : Fields) (s : State) (past : List Entry) : Type 0 where
@@ -77,7 +76,7 @@ pub record Layers (f : Fields) (s : State) (past : List Entry) : Type 0 where
   pub tip : Tip (s .n) (viewOf s) ledger
   pub spent : Cost (s .n) (viewOf s) cost
   pub object : Data (s .n) (asks f) (s .kind) (s .capacity) (viewOf s) ledger (jobsOf f past) answers (s .object)
-  pub chronicle : Chronicle Bounded f (seenOf (viewOf s)) (positionsOf ledger) cost answers past
+  pub chronicle : Chronicle Paid f (seenOf (viewOf s)) (positionsOf ledger) cost answers past
   pub said : RemoteAsSaid DsmSynch past
   pub own-never : happened givesOwn past ≡ false
   -- a thread has as many requests as its row of the file
@@ -109,7 +108,7 @@ module _ (f : Fields) (fits : InRange f) (s : State) (past : List Entry) (t : Th
             (sym (rw number-l at (meets-at (now .control) (t .0) (number l) (dsm.node s t) below stands)) ∙ q) .0;
       }
 
-  module _ (fine : dsm.null-met s t ≡ false) where
+  module _ (fine : dsm.nullMet s t ≡ false) where
     abbrev after : State
     after = dsm.entered s t
 
@@ -122,26 +121,26 @@ module _ (f : Fields) (fits : InRange f) (s : State) (past : List Entry) (t : Th
     does : Does (s .n) (s .h) (viewOf s) (viewOf after) (t .0) l (request s t) (dsm.applied s t .answer)
     does = does-of s t (now .control) below (now .shape .threads) (now .shape .nodes) few fine
 
-    by : Told (viewOf s) (t .0) (number l) (e .event)
-    by = told does
+    tells : Told (viewOf s) (t .0) (number l) (e .event)
+    tells = by (now .control) does (tells-of s t)
 
     -- the entry moves as a history asks
     moved : Moves (f .head .n) (f .head .h) (seenOf (viewOf s)) (seenOf (viewOf after)) (positionsOf (now .ledger)) (positionsOf next) (t .0) e
     moved = rw (← going .n, ← going .h) (moves (now .control) does (tells-of s t))
 
-    at-line : (event : Event) {k : ℕ} → is event e ≡ eqb (number l) k → Is event e → number l ≡ k
-    at-line event {k} same q = eqb-true (number l) k (sym same ∙ is-so e event q)
+    here : (event : Event) {k : ℕ} → is event e ≡ eqb (number l) k → Is event e → number l ≡ k
+    here = at-line (now .control) does (tells-of s t)
 
     -- a call that begins has a request of the file, which the object knows
     some-begun : Is CallBegins e → named s t .begun < length (askedOf f t)
-    some-begun q = omega (arith, now .rows (t .0) below, some-left s t (now .control) below (sym number-l ∙ at-line CallBegins (by .begins) q))
+    some-begun q = omega (arith, now .rows (t .0) below, some-left s t (now .control) below (sym number-l ∙ here CallBegins (tells .begins) q))
 
     none-begun : Is Blank e → length (askedOf f t) ≤ named s t .begun
-    none-begun q = omega (arith, now .rows (t .0) below, none-left s t (now .control) below (sym number-l ∙ at-line Blank (by .blanks) q))
+    none-begun q = omega (arith, now .rows (t .0) below, none-left s t (now .control) below (sym number-l ∙ here Blank (tells .blanks) q))
 
     begins-known : number l ≡ 1 → knows (s .kind) (asks f (t .0) (named s t .begun)) ≡ true
     begins-known q =
-        let less : named s t .begun < length (askedOf f t) = some-begun (eqb-true _ 1 (by .begins ∙ eq-eqb (number l) 1 q)) in
+        let less : named s t .begun < length (askedOf f t) = some-begun (eqb-true _ 1 (tells .begins ∙ eq-eqb (number l) 1 q)) in
         rw (going .kind)
         (request-known (f .head .object) _
         (each-getD (RequestInRange (f .head .object)) (askedOf f t) (named s t .begun) (Put 0) (row-fits f fits (t .0) (omega (arith, going .n)) .requests) less))
@@ -157,13 +156,13 @@ module _ (f : Fields) (fits : InRange f) (s : State) (past : List Entry) (t : Th
 
     -- what the entry costs, as the state counts it
     remote-same : remoteIn (e .remote) ≡ dsm.references s t .remote
-    remote-same = remote-ones DsmSynch (s .n) (t .0) (s .copies) (dsm.made s t)
+    remote-same = remote-ones DsmSynch (s .n) (t .0) (s .copies) (dsm.accesses s t)
 
     abbrev costs : ℕ → ℕ
     costs = upd (now .cost) (t .0) (cond (eqb (number l) 1) 0 (now .cost (t .0)) + dsm.references s t .remote)
 
     spends : costs (t .0) ≡ cond (is CallBegins e) 0 (now .cost (t .0)) + remoteIn (e .remote)
-    spends = upd-same (now .cost) (t .0) _ ∙ rw (by .begins, remote-same)
+    spends = upd-same (now .cost) (t .0) _ ∙ rw (tells .begins, remote-same)
 
     -- a call returns from waiting with line 12 alone
     by-another : Is Returns e → phaseOf (named s t .line) ≡ waiting → now .cost (t .0) + remoteIn (e .remote) ≡ 2
@@ -177,12 +176,12 @@ module _ (f : Fields) (fits : InRange f) (s : State) (past : List Entry) (t : Th
     gives-other : givesOwn e past ≡ false
     gives-other =
         by-event e Swaps
-        (λ q. rw (is-so e Swaps q) (ne-eqb (ownerOf (s .tail)) (t .0) (swap-gives (now .control) does (now .tip) few (at-line Swaps (by .swaps) q))))
+        (λ q. rw (is-so e Swaps q) (ne-eqb (ownerOf (s .tail)) (t .0) (swap-gives (now .control) does (now .tip) few (here Swaps (tells .swaps) q))))
         (λ q. rw (is-not e Swaps q))
 
-    shows : Shows Bounded f (seenOf (viewOf s)) (positionsOf (now .ledger)) (now .cost) costs (now .answers) past (t .0) e (dsm.applied s t .answer)
+    shows : Shows Paid f (seenOf (viewOf s)) (positionsOf (now .ledger)) (now .cost) costs (now .answers) past (t .0) e (dsm.applied s t .answer)
     shows = record {
-      takes = λ q. dsm-entry-tells s t .takes q ∙ served-asks (now .control) (now .object) l below (does .stands) (at-line Applies (by .applies) q);
+      takes = λ q. dsm-entry-tells s t .takes q ∙ served-asks (now .control) (now .object) l below (does .stands) (here Applies (tells .applies) q);
       gives = dsm-entry-tells s t .answers;
       returns = λ q. dsm-entry-tells s t .returns q ∙ answer-there (now .control) (now .object) l below (does .stands) (last-line (now .control) does (tells-of s t) q);
       by-another = by-another;
@@ -204,7 +203,7 @@ module _ (f : Fields) (fits : InRange f) (s : State) (past : List Entry) (t : Th
       spent = cost-kept (s .copies) few (now .control) (now .tip) (now .spent) does;
       object = object-next;
       chronicle = chronicle-next moved (now .chronicle) shows;
-      said = (owner-marks (s .n) (t .0) (s .copies) (dsm.made s t), now .said);
+      said = (owner-marks (s .n) (t .0) (s .copies) (dsm.accesses s t), now .said);
       own-never = rw gives-other (now .own-never);
       rows = λ u b. count-kept (now .control) does (tells-of s t) u ∙ now .rows u b;
     }

@@ -60,14 +60,14 @@ pub record Tells (v : View) (t : ℕ) (l : Line) (e : Entry) : Type 0 where
 
 module _ {n h : ℕ} {v v′ : View} {g : Ledger} {t : ℕ} {l : Line} {request : Request} {answer : Answer} {e : Entry} (c : Control n h v g)
     (run : Does n h v v′ t l request answer) (tells : Tells v t l e) where
-  by : Told v t (number l) (e .event)
+  pub by : Told v t (number l) (e .event)
   by = rw (tells .event) (told run)
 
   -- where an event is told by a test of its line, its entry passes it
   so : (event : Event) {test : Bool} → sameEvent (e .event) event ≡ test → Is event e → test ≡ true
   so event e q = sym e ∙ eq-eqb _ (eventNumber event) q
 
-  at-line : (event : Event) {k : ℕ} → sameEvent (e .event) event ≡ eqb (number l) k → Is event e → number l ≡ k
+  pub at-line : (event : Event) {k : ℕ} → sameEvent (e .event) event ≡ eqb (number l) k → Is event e → number l ≡ k
   at-line event {k} e q = eqb-true (number l) k (so event e q)
 
   -- a call's last line

@@ -1,17 +1,16 @@
 -- The claims of DSM-Synch, for all fields in range, at every cut of the schedule before an entry that meets null. Assumes nothing else.
-use Prim.Native.Nat.{ℕ, _<_}
+use Prim.Native.Nat.{ℕ}
 use native.Mathlib.Omega.{arith}
 use mathlib.Core.Path.{_≡_, refl, ap}
 use mathlib.Core.Bool.{true}
-use mathlib.Core.List.{List, [], _∷_, reverse}
-use lib.ListN.{length, take}
+use mathlib.Core.List.{List, [], reverse}
+use lib.ListN.{take}
 use Rattle.object.proofs.Within.{within-range}
 use Rattle.bench_file.specs.Layout.{Fields}
 use Rattle.bench_file.specs.Bytes.{InRange}
 use Rattle.bench_file.proofs.RoundTrip.{capacity-range}
 use Rattle.machine.specs.declared.Method.the-variants.{DsmSynch}
 use Rattle.machine.specs.declared.Thread.{Thread}
-use Rattle.machine.specs.declared.ThreadId.{ThreadId}
 use Rattle.state.specs.declared.State.{State}
 use Rattle.step.specs.DsmEntry as dsm
 use Rattle.invariant.specs.View.{viewOf}
@@ -22,19 +21,19 @@ use Rattle.dsm_invariant.proofs.Cost.{cost-fresh}
 use Rattle.dsm_invariant.proofs.Data.{data-fresh}
 use Rattle.history.specs.Entries.{Entry}
 use Rattle.history.proofs.OfCall.{never-other}
-use Rattle.claims.specs.Entries.{dsmEntryOf, startBy, stateAfter, meetsNoNull, entriesBy}
-use Rattle.claims.specs.Claims.{Demand3At, DsmDemand3Of}
+use Rattle.claims.specs.Entries.{startBy, stateAfter, meetsNoNull, entriesBy}
+use Rattle.claims.specs.Claims.{DsmDemand3Of}
 use Rattle.claims.proofs.Chronicle.{asks, chronicle-fresh}
 use Rattle.claims.proofs.Chronicled.{Chronicled}
 use Rattle.claims.proofs.Cut.{NoNull, none-met}
 use Rattle.claims.proofs.Demand.{demand-3-from}
 use Rattle.claims.proofs.Run.{Going, run-keeps}
 use Rattle.claims.proofs.Start.{shaped-start, thread-start}
-use Rattle.dsm_claims.proofs.Layers.{Bounded, Layers, null-alone, layers-next}
+use Rattle.dsm_claims.proofs.Layers.{Paid, Layers, null-alone, layers-next}
 use Rattle.dsm_claims.proofs.Seen.{phaseOf, seenOf, positionsOf, idle-line}
 
 -- as the claim needs it: what a call that another served has cost is what is claimed, since no Swap gives its thread's other node
-chronicled : (f : Fields) (s : State) (past : List Entry) → Going DsmSynch f s past → Layers f s past → Chronicled Bounded DsmSynch f s past
+chronicled : (f : Fields) (s : State) (past : List Entry) → Going DsmSynch f s past → Layers f s past → Chronicled Paid DsmSynch f s past
 chronicled f s past going now = record {
   seen = seenOf (viewOf s);
   positions = positionsOf (now .ledger);
@@ -76,7 +75,7 @@ module _ (f : Fields) (fits : InRange f) where
             data-fresh n (asks f) (f .head .object) (f .head .capacity) v
             (within-range _ _ _ .1 (capacity-range (f .head .object) (f .head .capacity) .1 (fits .head .capacity))) idle;
         chronicle =
-            chronicle-fresh Bounded f (seenOf v) (positionsOf freshLedger) (λ u. 0) (λ u b. ap phaseOf (idle u b))
+            chronicle-fresh Paid f (seenOf v) (positionsOf freshLedger) (λ u. 0) (λ u b. ap phaseOf (idle u b))
             (λ u b. ap (λ (th : Thread). th .begun) (thread-start DsmSynch f fits u b)) refl refl;
         said = tt;
         own-never = refl;
@@ -94,5 +93,5 @@ module _ (f : Fields) (fits : InRange f) where
   pub dsm-demand-3 : DsmDemand3Of f
   dsm-demand-3 j none =
       let kept = run-layers j none in
-      demand-3-from Bounded DsmSynch f fits j (kept .0) (chronicled f _ _ (kept .0) (kept .1))
+      demand-3-from Paid DsmSynch f fits j (kept .0) (chronicled f _ _ (kept .0) (kept .1))
       (λ t below. null-alone f fits _ _ t (omega (arith, kept .0 .n)) (kept .0) (kept .1)) (kept .1 .own-never)

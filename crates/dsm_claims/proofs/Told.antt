@@ -26,7 +26,7 @@ tells-of s t = record {
   serves = λ q. ap (λ (m : NodeId). m .0) (dsm-entry-tells s t .serves q);
 }
 
--- a Swap tells the node that Tail points to after it, and that its thread then has in myPredNode the one that it is given
+-- a Swap tells the node that Tail points to after it and, as given, the one that its thread then has in myPredNode
 pub swap-tells : (s : State) (t : ThreadId) → Is Swaps (dsmEntryOf s t)
     → (dsmEntryOf s t .node ≡ dsm.effect s t .tail) × (dsmEntryOf s t .given ≡ dsm.effect s t .thread .pred)
 swap-tells s t q =

@@ -7,6 +7,7 @@ use Rattle.object.specs.declared.Request.{Request}
 use Rattle.object.specs.declared.Request.the-variants.{Put, Take, Add}
 use Rattle.bench_file.specs.Layout.{Fields}
 use Rattle.state.specs.declared.Counts.{Counts}
+use Rattle.history.specs.Terms.{noEntry}
 use Rattle.claims.specs.Entries.{cut}
 use Rattle.claims.specs.Marked.{done, value, empty, full, none, stillOpen, hasReturned, listed}
 use Rattle.claims.specs.Result.{counted}
@@ -36,10 +37,6 @@ gives fields counts records = record { fields = fields; counts = counts; records
 abbrev pub times : List (ℕ × ℕ) → List ℕ
 times [] = []
 times (part ∷ parts) = replicate (part .0) (part .1) ++ times parts
-
--- what stands for the number of no entry
-abbrev never : ℕ
-never = 4_294_967_295
 
 -- thread 0 alone adds 5 and 7, with four entries more than it needs: the 64-byte file as DSM-Synch
 abbrev pub twoAdds : Fields
@@ -72,51 +69,49 @@ failedCas =
     counterOf 2 1 ((Add 1 ∷ []) ∷ (Add 10 ∷ []) ∷ [])
     (times ((17, 0) ∷ (8, 1) ∷ (2, 0) ∷ (2, 1) ∷ (4, 0) ∷ (13, 1) ∷ []))
 
--- a late line 27 of thread 0 takes back the next that thread 1's line 26 is to follow: the last of these 106 entries follows null
+-- the requests of three threads and of four, and how the runs with a late line 27 begin: thread 0 stops before it
 abbrev threeRows : List (List Request)
 threeRows = (Add 1 ∷ []) ∷ replicate 3 (Add 10) ∷ replicate 2 (Add 100) ∷ []
 
+abbrev fourRows : List (List Request)
+fourRows = threeRows ++ ((Add 1000 ∷ []) ∷ [])
+
+abbrev late : List (ℕ × ℕ) → List ℕ
+late parts = times ((8, 0) ∷ (9, 1) ∷ (9, 2) ∷ (17, 0) ∷ (3, 1) ∷ (13, 2) ∷ parts)
+
+-- it then takes back the next that thread 1's line 26 is to follow: the last of these 106 entries follows null
 abbrev pub lateLine27 : Fields
-lateLine27 =
-    counterOf 3 2 threeRows (times ((8, 0) ∷ (9, 1) ∷ (9, 2) ∷ (17, 0) ∷ (3, 1) ∷ (13, 2) ∷ (27, 1) ∷ (9, 2) ∷ (9, 1) ∷ (1, 0) ∷ (1, 1) ∷ []))
+lateLine27 = counterOf 3 2 threeRows (late ((27, 1) ∷ (9, 2) ∷ (9, 1) ∷ (1, 0) ∷ (1, 1) ∷ []))
 
 -- the same, with a node more in the queue: the last of these 113 entries, line 21, would put null into tmpNode
 abbrev pub nullForTmpNode : Fields
-nullForTmpNode =
-    counterOf 4 2 ((Add 1 ∷ []) ∷ replicate 3 (Add 10) ∷ replicate 2 (Add 100) ∷ (Add 1000 ∷ []) ∷ [])
-    (times ((8, 0) ∷ (9, 1) ∷ (9, 2) ∷ (17, 0) ∷ (3, 1) ∷ (13, 2) ∷ (27, 1) ∷ (9, 2) ∷ (9, 3) ∷ (7, 1) ∷ (1, 0) ∷ (1, 1) ∷ []))
+nullForTmpNode = counterOf 4 2 fourRows (late ((27, 1) ∷ (9, 2) ∷ (9, 3) ∷ (7, 1) ∷ (1, 0) ∷ (1, 1) ∷ []))
 
 -- line 27 comes before thread 1's line 22: it stays at 25, and spins at its own node
 abbrev pub spinsForEver : Fields
-spinsForEver =
-    counterOf 3 2 threeRows (times ((8, 0) ∷ (9, 1) ∷ (9, 2) ∷ (17, 0) ∷ (3, 1) ∷ (13, 2) ∷ (27, 1) ∷ (9, 2) ∷ (8, 1) ∷ (1, 0) ∷ (4, 1) ∷ []))
+spinsForEver = counterOf 3 2 threeRows (late ((27, 1) ∷ (9, 2) ∷ (8, 1) ∷ (1, 0) ∷ (4, 1) ∷ []))
 
 -- the same at another's node: thread 2 spins k times at 25, each time by a remote reference
 abbrev pub spinsRemotely : ℕ → Fields
-spinsRemotely k =
-    counterOf 4 2 ((Add 1 ∷ []) ∷ replicate 3 (Add 10) ∷ replicate 2 (Add 100) ∷ (Add 1000 ∷ []) ∷ [])
-    (times ((8, 0) ∷ (9, 1) ∷ (9, 2) ∷ (17, 0) ∷ (3, 1) ∷ (13, 2) ∷ (19, 1) ∷ (8, 2) ∷ (9, 1) ∷ (9, 3) ∷ (15, 2) ∷ (1, 0) ∷ (2, 2) ∷ (k, 2) ∷ []))
+spinsRemotely k = counterOf 4 2 fourRows (late ((19, 1) ∷ (8, 2) ∷ (9, 1) ∷ (9, 3) ∷ (15, 2) ∷ (1, 0) ∷ (2, 2) ∷ (k, 2) ∷ []))
 
-abbrev pub spunRemotely : ℕ → Marked
-spunRemotely k =
-    gives (spinsRemotely k) (counted 7 4 0 k (35 + k))
-    (listed 0 0 value 0 0 0 13 stillOpen 0 never
-    ∷ listed 1 0 value 1 0 0 2 hasReturned 8 45
-    ∷ listed 2 0 value 11 2 1 3 hasReturned 17 58
-    ∷ listed 1 1 value 111 1 2 2 hasReturned 59 77
-    ∷ listed 2 1 value 121 2 3 (11 + k) stillOpen 78 never
-    ∷ listed 1 2 value 221 2 3 2 stillOpen 86 never
-    ∷ listed 3 0 none 0 255 65535 2 stillOpen 95 never
-    ∷ [])
-
--- the first four records of the runs with a late line 27
+-- the first four records of these runs
 abbrev firstFour : List (List ℕ) → List (List ℕ)
 firstFour later =
-    listed 0 0 value 0 0 0 13 stillOpen 0 never
+    listed 0 0 value 0 0 0 13 stillOpen 0 noEntry
     ∷ listed 1 0 value 1 0 0 2 hasReturned 8 45
     ∷ listed 2 0 value 11 2 1 3 hasReturned 17 58
     ∷ listed 1 1 value 111 1 2 2 hasReturned 59 77
     ∷ later
+
+abbrev pub spunRemotely : ℕ → Marked
+spunRemotely k =
+    gives (spinsRemotely k) (counted 7 4 0 k (35 + k))
+    (firstFour
+    (listed 2 1 value 121 2 3 (11 + k) stillOpen 78 noEntry
+    ∷ listed 1 2 value 221 2 3 2 stillOpen 86 noEntry
+    ∷ listed 3 0 none 0 255 65535 2 stillOpen 95 noEntry
+    ∷ []))
 
 unfoldable pub markedRuns : List Marked
 markedRuns =
@@ -139,15 +134,15 @@ markedRuns =
     ∷ [])
     ∷ gives failedCas (counted 2 2 0 2 6) (listed 0 0 value 0 0 0 3 hasReturned 0 32 ∷ listed 1 0 value 1 1 1 3 hasReturned 17 45 ∷ [])
     ∷ gives (cut 105 lateLine27) (counted 6 4 0 0 24)
-    (firstFour (listed 1 2 value 121 1 3 2 stillOpen 78 never ∷ listed 2 1 none 0 255 65535 2 stillOpen 86 never ∷ []))
+    (firstFour (listed 1 2 value 121 1 3 2 stillOpen 78 noEntry ∷ listed 2 1 none 0 255 65535 2 stillOpen 86 noEntry ∷ []))
     ∷ gives (cut 112 nullForTmpNode) (counted 7 4 0 0 26)
     (firstFour
-    (listed 1 2 value 121 1 3 2 stillOpen 78 never
-    ∷ listed 2 1 none 0 255 65535 2 stillOpen 86 never
-    ∷ listed 3 0 none 0 255 65535 2 stillOpen 95 never
+    (listed 1 2 value 121 1 3 2 stillOpen 78 noEntry
+    ∷ listed 2 1 none 0 255 65535 2 stillOpen 86 noEntry
+    ∷ listed 3 0 none 0 255 65535 2 stillOpen 95 noEntry
     ∷ []))
     ∷ gives spinsForEver (counted 6 4 0 2 25)
-    (firstFour (listed 1 2 value 121 1 3 3 stillOpen 78 never ∷ listed 2 1 none 0 255 65535 2 stillOpen 86 never ∷ []))
+    (firstFour (listed 1 2 value 121 1 3 3 stillOpen 78 noEntry ∷ listed 2 1 none 0 255 65535 2 stillOpen 86 noEntry ∷ []))
     ∷ spunRemotely 0
     ∷ spunRemotely 5
     ∷ []

@@ -22,7 +22,7 @@ use Rattle.dsm_synch.specs.Effect.{meetsNull, executed}
 use Rattle.dsm_synch.proofs.Numbers.{number-of, by-line}
 use Rattle.state.specs.declared.State.{State}
 use Rattle.step.specs.Entry.{zeroThread, zeroNode, named, line, request}
-use Rattle.step.specs.DsmEntry.{runs, node, behind, written, applied, effect, entered, null-met}
+use Rattle.step.specs.DsmEntry.{runs, node, behind, written, applied, effect, entered, nullMet}
 use Rattle.invariant.specs.View.{viewOf}
 use Rattle.dsm_invariant.specs.Ledger.{Ledger}
 use Rattle.dsm_invariant.specs.View.{Does}
@@ -62,7 +62,7 @@ module _ (s : State) (t : ThreadId) {g : Ledger} (c : Control (s .n) (s .h) (vie
   pub none-left : line s t ≡ 0 → named s t .count ≤ named s t .begun
   none-left = runs-it .blank
 
-  module _ (threads : length (s .threads) ≡ 16) (nodes : length (s .nodes) ≡ mostNodes) (small : s .n ≤ 16) (fine : null-met s t ≡ false) where
+  module _ (threads : length (s .threads) ≡ 16) (nodes : length (s .nodes) ≡ mostNodes) (small : s .n ≤ 16) (fine : nullMet s t ≡ false) where
     fine-so : meetsNull (named s t) (node s t) (number (runs s t)) ≡ false
     fine-so = rw number-line fine
 

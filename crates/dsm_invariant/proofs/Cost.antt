@@ -10,8 +10,10 @@ use Rattle.object.specs.declared.Request.{Request}
 use Rattle.object.specs.declared.Answer.{Answer}
 use Rattle.object.proofs.Choice.{by-equal, by-order, either}
 use Rattle.machine.specs.declared.Method.the-variants.{DsmSynch}
+use Rattle.machine.specs.declared.NodeId.{NodeId}
 use Rattle.machine.specs.declared.Node.{Node}
 use Rattle.machine.specs.declared.Thread.{Thread}
+use Rattle.machine.specs.Owners.{ownerOf}
 use Rattle.dsm_synch.specs.Lines.{Line, number, accesses}
 use Rattle.dsm_synch.proofs.Numbers.{each-line}
 use Rattle.copies.specs.Remote.{referredBy}
@@ -29,18 +31,20 @@ use Rattle.dsm_invariant.proofs.Follows.{each-after, each-run}
 use Rattle.dsm_invariant.proofs.Threads.{chosen, known-there, my-home}
 use Rattle.dsm_invariant.proofs.Tip.{owner, swap-gives}
 
--- 1 where the node of a number is not thread t's
-abbrev far : ℕ → ℕ → ℕ
-far t m = cond (eqb (m / 2) t) 0 1
+-- 1 where a node is not thread t's
+abbrev pub another : ℕ → NodeId → ℕ
+another t m = cond (eqb (ownerOf m) t) 0 1
 
--- of lines 0 to 12, 7 makes a remote reference to Tail and 9 writes to myPredNode; the others, from 3 on, access myNode at most
-abbrev touches : ℕ → Bool
+-- the lines from 3 to 12 that go to a node
+abbrev pub touches : ℕ → Bool
 touches k = leb 3 k && not (eqb k 8)
 
-abbrev early : ℕ → Thread → ℕ → ℕ
-early t th k = cond (eqb k 7) 1 (cond (eqb k 9) (far t (th .pred .0)) (cond (touches k) (far t (th .my .0)) 0))
+-- of lines 0 to 12, in any state, 7 makes one remote reference, 9 one unless myPredNode is the thread's own, and the others none unless myNode is another's: so a call
+-- that has come to line 12 has made two, or one if its Swap gave a node of its own
+abbrev pub early : ℕ → Thread → ℕ → ℕ
+early t th k = cond (eqb k 7) 1 (cond (eqb k 9) (another t (th .pred)) (cond (touches k) (another t (th .my)) 0))
 
-remote-early : (n t : ℕ) (copies : List ℕ) (th : Thread) (x : Node) (l : Line) → number l ≤ 12
+pub remote-early : (n t : ℕ) (copies : List ℕ) (th : Thread) (x : Node) (l : Line) → number l ≤ 12
     → referredBy DsmSynch n t copies (accesses th x l) .remote ≡ early t th (number l)
 remote-early n t copies th x l low =
     let Early : Line → Type 0 = λ l. referredBy DsmSynch n t copies (accesses th x l) .remote ≡ early t th (number l) in
@@ -59,7 +63,7 @@ module _ {n h : ℕ} {v v′ : View} {g : Ledger} {t : ℕ} {l : Line} {request 
   stands-at from = run .stands ∙ rw (lt-leb (number l) 1 from)
 
   -- lines 3 to 12 find their own node at hand
-  near : 2 < number l → number l ≤ 12 → far t (v .thread t .my .0) ≡ 0
+  near : 2 < number l → number l ≤ 12 → another t (v .thread t .my) ≡ 0
   near above low =
       let there : T (chosen (from l)) = rw (lt-leb (number l) 2 above, lt-leb 14 (number l) (omega arith)) at (known-there l) in
       rw (my-home control t (run .below) (rw (run .stands) there), owner t (control .old t (run .below) .toggled), eq-eqb t t refl)
@@ -69,7 +73,7 @@ module _ {n h : ℕ} {v v′ : View} {g : Ledger} {t : ℕ} {l : Line} {request 
       remote-early n t copies (v .thread t) (first v t l) l low
       ∙ by-equal (number l) 7 (λ q. rw q) λ p.
       by-equal (number l) 9
-      (λ q. rw (q, ne-eqb (v .thread t .pred .0 / 2) t (before .foreign t (run .below) (omega (arith, stands-at from)) (omega (arith, stands-at from))))) λ q.
+      (λ q. rw (q, ne-eqb (ownerOf (v .thread t .pred)) t (before .foreign t (run .below) (omega (arith, stands-at from)) (omega (arith, stands-at from))))) λ q.
       by-order 2 (number l)
       (λ above. rw (ne-eqb (number l) 7 p, ne-eqb (number l) 9 q) (either (λ (k : ℕ). k ≡ 0) (touches (number l)) (λ _. near above low) (λ _. refl)))
       (λ two. let z : number l ≡ 2 = omega arith in rw z)
@@ -102,7 +106,7 @@ module _ {n h : ℕ} {v v′ : View} {g : Ledger} {t : ℕ} {l : Line} {request 
       rw (price-grows low high, ne-eqb (number l) 1 q) (omega (arith, pays from (early .1), spent-before from (early .1))))
 
   -- and to 8 and 9 by 7 and 8: the Swap gave another's node
-  foreign-after : 8 ≤ v′ .thread t .line → v′ .thread t .line ≤ 9 → v′ .thread t .pred .0 / 2 ≡ t → ⊥
+  foreign-after : 8 ≤ v′ .thread t .line → v′ .thread t .line ≤ 9 → ownerOf (v′ .thread t .pred) ≡ t → ⊥
   foreign-after low high e =
       let inside = among-true 8 9 (v′ .thread t .line) low high in
       let least : 7 ≤ number l = rw inside at (each-run run (λ k event j. 7 ≤ cond (among 8 9 j) k 7) (omega arith) (omega arith)) in

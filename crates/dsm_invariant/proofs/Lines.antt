@@ -13,7 +13,7 @@ use Rattle.dsm_synch.specs.Effect.{goes}
 use Rattle.invariant.specs.Ledger.{upd}
 use Rattle.invariant.specs.View.{View}
 use Rattle.dsm_invariant.specs.Stages.{out, idle, o2, wait, w8, w9, w10, w13, leave, v27, v28, queued}
-use Rattle.dsm_invariant.specs.Ledger.{Ledger, numberOf, nodeAt, noted}
+use Rattle.dsm_invariant.specs.Ledger.{Ledger, nodeNumber, nodeAt, noted}
 use Rattle.dsm_invariant.specs.View.{Does}
 use Rattle.dsm_invariant.specs.Control.{none, right, Old, Pred, first, after, Gate, closed, turn, Gated, WaitRow, WaitFacts, Control}
 use Rattle.object.proofs.Choice.{by-equal, either}
@@ -55,7 +55,7 @@ module _ {n h : ℕ} {v v′ : View} {g : Ledger} {t : ℕ} {request : Request} 
   begins-call run = prepares c run refl _ refl (λ z. z) (λ m e. kept c run refl m) (toggled g t _ (mine-old c run)) (search (arith, absurd))
 
   pub chooses-node : Does n h v v′ t L2 request answer → Control n h v′ (noted v t g L2)
-  unfolding numberOf
+  unfolding nodeNumber
   chooses-node run =
       let f = known c run in let o = mine-old c run in prepares c run refl _ refl (λ z. z) (λ m e. kept c run refl m) (search o) (search (arith, absurd, f))
 

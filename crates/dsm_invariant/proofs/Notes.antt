@@ -14,7 +14,7 @@ use Rattle.dsm_synch.proofs.Numbers.{each-line, by-line}
 use Rattle.step.specs.Entry.{oneIf}
 use Rattle.invariant.specs.View.{View}
 use Rattle.invariant.proofs.Upd.{upd-same, upd-other}
-use Rattle.dsm_invariant.specs.Ledger.{Ledger, numberOf, nodeAt, counting, swapped, joining, noted}
+use Rattle.dsm_invariant.specs.Ledger.{Ledger, nodeNumber, nodeAt, counting, swapped, joining, noted}
 
 -- whether thread t's line k ends its turn: 26, and a 23 that sets Tail to null
 abbrev pub ending : View → ℕ → ℕ → Bool
@@ -68,13 +68,13 @@ module _ (v : View) (t : ℕ) (g : Ledger) (l : Line) where
   -- the nodes of the positions so far stay, and a Swap's is the one that its thread toggled to
   pub node-kept : (i : ℕ) → i < g .s → nodeAt (noted v t g l) i ≡ nodeAt g i
   node-kept i low =
-      ap₂ numberOf
+      ap₂ nodeNumber
       (notes v t g l .who i ∙ by-equal (number l) 7 (λ q. rw q (upd-other (g .who) (g .s) _ i (λ e. omega arith))) (λ q. rw (ne-eqb (number l) 7 q)))
       (notes v t g l .bit i ∙ by-equal (number l) 7 (λ q. rw q (upd-other (g .bit) (g .s) _ i (λ e. omega arith))) (λ q. rw (ne-eqb (number l) 7 q)))
 
-  pub node-new : number l ≡ 7 → nodeAt (noted v t g l) (g .s) ≡ numberOf t (v .thread t .toggle)
+  pub node-new : number l ≡ 7 → nodeAt (noted v t g l) (g .s) ≡ nodeNumber t (v .thread t .toggle)
   node-new q =
-      ap₂ numberOf (notes v t g l .who (g .s) ∙ rw q (upd-same (g .who) (g .s) _)) (notes v t g l .bit (g .s) ∙ rw q (upd-same (g .bit) (g .s) _))
+      ap₂ nodeNumber (notes v t g l .who (g .s) ∙ rw q (upd-same (g .who) (g .s) _)) (notes v t g l .bit (g .s) ∙ rw q (upd-same (g .bit) (g .s) _))
 
   -- the turn stays where it is until it ends
   pub turn-kept : ending v t (number l) ≡ false → noted v t g l .b ≡ g .b

@@ -11,7 +11,7 @@ use Rattle.machine.specs.Lines.{standsAt}
 use Rattle.dsm_synch.specs.Lines.{Line, number}
 use Rattle.invariant.specs.View.{View}
 use Rattle.dsm_invariant.specs.Stages.{Stage, Out, idle, o2, o3, o4, o5, o6, o7, out, wait, combine, leave, nowhere, stageOf, queued}
-use Rattle.dsm_invariant.specs.Ledger.{Ledger, numberOf, nodeAt}
+use Rattle.dsm_invariant.specs.Ledger.{Ledger, nodeNumber, nodeAt}
 use Rattle.dsm_invariant.specs.View.{Does}
 use Rattle.dsm_invariant.specs.Control.{In, Old, former, preparing, outRow, Facts, Control}
 use Rattle.object.proofs.Choice.{by-equal, by-order}
@@ -34,7 +34,7 @@ module _ (n h : ℕ) (g : Ledger) (u : ℕ) (th : Thread) (x : Node) where
   in-queue (leave w) q f = f .0
   in-queue nowhere q f = absurd q
 
-  chosen-home : (s : Stage) → T (preparing s) → Knows n h g u s th x → th .my .0 ≡ numberOf u (th .toggle)
+  chosen-home : (s : Stage) → T (preparing s) → Knows n h g u s th x → th .my .0 ≡ nodeNumber u (th .toggle)
   chosen-home (out o) q f = f .chosen q
   chosen-home (wait w) q f = absurd q
   chosen-home (combine w) q f = absurd q
@@ -86,12 +86,12 @@ module _ {n h : ℕ} {v : View} {g : Ledger} (c : Control n h v g) where
 
   -- a queued thread's node is its position's
   pub placed : (u : ℕ) → u < n → T (queued (stageOf (v .thread u .line))) → v .thread u .my .0 ≡ nodeAt g (g .at u)
-  placed u k q = let f = queued-in u k q in f .home ∙ sym (ap₂ numberOf (f .who) (f .bit))
+  placed u k q = let f = queued-in u k q in f .home ∙ sym (ap₂ nodeNumber (f .who) (f .bit))
 
   -- a node of the thread's present toggle is no position's, from the last applied on, but that of its open call
   present-apart : (u i : ℕ) → u < n → (T (queued (stageOf (v .thread u .line))) → i ≡ g .at u → ⊥)
       → former (stageOf (v .thread u .line)) (v .thread u .toggle) ≡ 1 - v .thread u .toggle
-      → i < g .s → g .a ≤ suc i → numberOf u (v .thread u .toggle) ≡ nodeAt g i → ⊥
+      → i < g .s → g .a ≤ suc i → nodeNumber u (v .thread u .toggle) ≡ nodeAt g i → ⊥
   present-apart u i k apart other lo hi e =
       let old = c .old u k in
       let bit = c .real i lo .bit in
@@ -105,7 +105,7 @@ module _ {n h : ℕ} {v : View} {g : Ledger} (c : Control n h v g) where
       (λ apart. absurd (present-apart u i k (λ _. apart) (former-queued (stageOf (v .thread u .line)) _ q) lo hi (sym (queued-in u k q .home) ∙ e)))
 
   -- a node that is prepared is the thread's own, and of none of them
-  pub prepared-home : (u : ℕ) → u < n → T (preparing (stageOf (v .thread u .line))) → v .thread u .my .0 ≡ numberOf u (v .thread u .toggle)
+  pub prepared-home : (u : ℕ) → u < n → T (preparing (stageOf (v .thread u .line))) → v .thread u .my .0 ≡ nodeNumber u (v .thread u .toggle)
   prepared-home u k q = chosen-home n h g u (v .thread u) _ (stageOf (v .thread u .line)) q (c .facts u k)
 
   pub prepared-apart : (u i : ℕ) → u < n → T (preparing (stageOf (v .thread u .line))) → i < g .s → g .a ≤ suc i → v .thread u .my .0 ≡ nodeAt g i → ⊥

@@ -7,7 +7,7 @@ use lib.Dec.{T, ltb}
 use Rattle.machine.specs.declared.Node.{Node}
 use Rattle.machine.specs.declared.Thread.{Thread}
 use Rattle.dsm_invariant.specs.Stages.{Stage, Out, idle, o2, o3, o4, o5, o6, o7, out, wait, combine, leave, nowhere, queued}
-use Rattle.dsm_invariant.specs.Ledger.{Ledger, numberOf, nodeAt}
+use Rattle.dsm_invariant.specs.Ledger.{Ledger, nodeNumber, nodeAt}
 use Rattle.invariant.specs.Waits.{waits}
 use Rattle.dsm_invariant.specs.Control.{Link, none, right, In, Old, outRow, preparing, Even, Pred, first, after, Gate, arriving, behind, closed, opened, released, turn, Gated, WaitRow, waitRow, WaitFacts, CombineRow, combineRow, CombineFacts}
 use Rattle.object.proofs.Choice.{by-equal, by-order}
@@ -75,7 +75,7 @@ chosen-first o7 = (λ q. tt, λ q. tt, λ q. tt)
 
 module _ (g g′ : Ledger) (grown : Grown g g′) where
   pub place-same : (i : ℕ) → i < g .s → nodeAt g′ i ≡ nodeAt g i
-  place-same i k = ap₂ numberOf (grown .who i k) (grown .bit i k)
+  place-same i k = ap₂ nodeNumber (grown .who i k) (grown .bit i k)
 
   pub link-stable : (i next : ℕ) → Link g i next → Link g′ i next
   link-stable i next (none e) = none e

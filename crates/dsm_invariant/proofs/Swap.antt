@@ -11,7 +11,7 @@ use Rattle.dsm_synch.specs.Lines.{L7}
 use Rattle.dsm_synch.specs.Effect.{withPred}
 use Rattle.invariant.specs.View.{View}
 use Rattle.dsm_invariant.specs.Stages.{wait, w8, stageOf, queued}
-use Rattle.dsm_invariant.specs.Ledger.{Ledger, numberOf, nodeAt, swapped}
+use Rattle.dsm_invariant.specs.Ledger.{Ledger, nodeNumber, nodeAt, swapped}
 use Rattle.dsm_invariant.specs.View.{Does}
 use Rattle.dsm_invariant.specs.Control.{Tailed, empty, last, Link, none, Old, Pred, first, after, Seat, Real, ThreadFacts, Control}
 use Rattle.object.proofs.Choice.{by-equal}
@@ -51,7 +51,7 @@ module _ {n h : ℕ} {v v′ : View} {g : Ledger} {t : ℕ} {request : Request} 
   bit-last = upd-same (g .bit) (g .s) toggle
 
   node-last : nodeAt g′ (g .s) ≡ v .thread t .my .0
-  node-last = ap₂ numberOf who-last bit-last ∙ sym (known c run .chosen tt)
+  node-last = ap₂ nodeNumber who-last bit-last ∙ sym (known c run .chosen tt)
 
   at-mine : g′ .at t ≡ g .s
   at-mine = upd-same (g .at) t (g .s)

@@ -17,7 +17,7 @@ use Rattle.dsm_synch.specs.Effect.{meetsNull}
 use Rattle.dsm_synch.proofs.Numbers.{each-line, by-line}
 use Rattle.invariant.specs.View.{View}
 use Rattle.dsm_invariant.specs.Stages.{Stage, out, wait, combine, leave, nowhere, stages, stageOf, queued}
-use Rattle.dsm_invariant.specs.Ledger.{Ledger, numberOf, nodeAt}
+use Rattle.dsm_invariant.specs.Ledger.{Ledger, nodeNumber, nodeAt}
 use Rattle.dsm_invariant.specs.View.{first, goal}
 use Rattle.dsm_invariant.specs.Control.{Link, none, right, Pred, first as pred-first, after, preparing, Control}
 use Rattle.dsm_invariant.proofs.Basics.{number-range}
@@ -134,9 +134,9 @@ module _ {n h : ℕ} {v : View} {g : Ledger} (c : Control n h v g) where
       by-equal k 9 (λ q. rw (q, ne-eqb (v .thread u .pred .0) 255 (facts-at c u 9 below (rw q at e) .1 .gate .0))) (λ q. rw (ne-eqb k 9 q))
 
   -- myNode is the thread's own from line 3 on
-  pub my-home : (u : ℕ) → u < n → T (chosen (stageOf (v .thread u .line))) → v .thread u .my .0 ≡ numberOf u (v .thread u .toggle)
+  pub my-home : (u : ℕ) → u < n → T (chosen (stageOf (v .thread u .line))) → v .thread u .my .0 ≡ nodeNumber u (v .thread u .toggle)
   my-home u below =
-      by-test {P = T (chosen (stageOf (v .thread u .line))) → v .thread u .my .0 ≡ numberOf u (v .thread u .toggle)} (preparing (stageOf (v .thread u .line)))
+      by-test {P = T (chosen (stageOf (v .thread u .line))) → v .thread u .my .0 ≡ nodeNumber u (v .thread u .toggle)} (preparing (stageOf (v .thread u .line)))
       (λ e q. prepared-home c u below (rw e tt)) (λ e q. queued-in c u below (rw e at q) .home)
 
   -- the nodes that a thread knows are of the 2n: its own, tmpNode in its turn and after it, myPredNode at 9, and a next that is not null

@@ -11,13 +11,14 @@ use Rattle.object.specs.declared.Answer.{Answer}
 use Rattle.object.proofs.Choice.{by-equal, by-order, by-test, both-fail}
 use Rattle.machine.specs.Fields.{isNull}
 use Rattle.machine.specs.Lines.{standsAt}
+use Rattle.machine.specs.Owners.{ownerOf}
 use Rattle.machine.proofs.Owners.{owns-both}
 use Rattle.dsm_synch.specs.Lines.{Line, number, L19}
 use Rattle.dsm_synch.proofs.Numbers.{by-line}
 use Rattle.invariant.specs.View.{View}
 use Rattle.invariant.proofs.Upd.{upd-same}
 use Rattle.dsm_invariant.specs.Stages.{stageOf, queued}
-use Rattle.dsm_invariant.specs.Ledger.{Ledger, numberOf, nodeAt, noted, freshLedger}
+use Rattle.dsm_invariant.specs.Ledger.{Ledger, nodeNumber, nodeAt, noted, freshLedger}
 use Rattle.dsm_invariant.specs.View.{first, behind, Does}
 use Rattle.dsm_invariant.specs.Control.{Tailed, empty, last, Link, none, right, Seat, Control}
 use Rattle.dsm_invariant.specs.Tip.{Tip}
@@ -27,8 +28,8 @@ use Rattle.dsm_invariant.proofs.Follows.{onto, each-run, line-after}
 use Rattle.dsm_invariant.proofs.Threads.{inQueue, inTurn, lastLine, by-last, by-ending, one-turn, known-at}
 
 -- the owner of a thread's node
-pub owner : (u : ℕ) {x : ℕ} → x ≤ 1 → numberOf u x / 2 ≡ u
-unfolding numberOf
+pub owner : (u : ℕ) {x : ℕ} → x ≤ 1 → nodeNumber u x / 2 ≡ u
+unfolding nodeNumber
 owner u {x} one = owns-both u x one
 
 -- a next that is not null is right
@@ -153,10 +154,10 @@ module _ {n h : ℕ} {v v′ : View} {g : Ledger} {t : ℕ} {l : Line} {request 
   tip-kept = record { behind = behind-after; ahead = ahead-after; seat = seat-after }
 
   -- a Swap gives no node of its own thread
-  pub swap-gives : n ≤ 16 → number l ≡ 7 → v .tail .0 / 2 ≡ t → ⊥
+  pub swap-gives : n ≤ 16 → number l ≡ 7 → ownerOf (v .tail) ≡ t → ⊥
   swap-gives small q = go (c .tailed)
     where
-      go : Tailed g (v .tail .0) → v .tail .0 / 2 ≡ t → ⊥
+      go : Tailed g (v .tail .0) → ownerOf (v .tail) ≡ t → ⊥
       go (empty e p) z = omega (arith, run .below)
       go (last j e turn p) z =
           let same : g .who j ≡ t = sym (owner (g .who j) (c .real j (omega arith) .bit)) ∙ sym (ap (λ (m : ℕ). m / 2) p) ∙ z in

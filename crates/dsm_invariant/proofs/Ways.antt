@@ -14,7 +14,7 @@ use Rattle.dsm_synch.specs.Lines.{Line}
 use Rattle.dsm_synch.specs.Effect.{having, goes}
 use Rattle.invariant.specs.View.{View}
 use Rattle.dsm_invariant.specs.Stages.{stageOf, queued}
-use Rattle.dsm_invariant.specs.Ledger.{Ledger, numberOf, nodeAt, going, counting}
+use Rattle.dsm_invariant.specs.Ledger.{Ledger, nodeNumber, nodeAt, going, counting}
 use Rattle.dsm_invariant.specs.View.{goal, does, Does}
 use Rattle.invariant.specs.Waits.{waits}
 use Rattle.dsm_invariant.specs.Control.{Order, Tailed, Link, In, Old, preparing, Even, CombineRow, CombineFacts, ThreadFacts, Control}
@@ -116,7 +116,7 @@ module _ {n h : ℕ} {v v′ : View} {g : Ledger} {t : ℕ} {l : Line} {request 
         now : T (preparing (from l)) → T (preparing (stageOf (v .thread t .line)))
         now p = rw (run .stands) p
 
-        others : (u : ℕ) → u < n → (u ≡ t → ⊥) → v .thread u .my .0 ≡ numberOf u (v .thread u .toggle)
+        others : (u : ℕ) → u < n → (u ≡ t → ⊥) → v .thread u .my .0 ≡ nodeNumber u (v .thread u .toggle)
             → v′ .node (v .thread u .my .0) ≡ v .node (v .thread u .my .0)
         others u k e z =
             away _

@@ -8,7 +8,7 @@ use Rattle.machine.specs.declared.Thread.{Thread}
 use Rattle.invariant.specs.View.{View}
 use Rattle.invariant.specs.Waits.{waits}
 use Rattle.dsm_invariant.specs.Stages.{Out, idle, o2, o3, o4, o5, o6, o7, Wait, w8, w9, w10, w11, w12, w13, Combine, c14, c15, c16, c17, c18, c19, c20, c21, c22, c23, c25, c26, Stage, out, wait, combine, leave, nowhere, stageOf, queued}
-use Rattle.dsm_invariant.specs.Ledger.{Ledger, numberOf, nodeAt}
+use Rattle.dsm_invariant.specs.Ledger.{Ledger, nodeNumber, nodeAt}
 
 pub record Order (g : Ledger) : Type 0 where
   pub turn : g .b ≤ g .k
@@ -33,7 +33,7 @@ pub record In (g : Ledger) (u toggle my : ℕ) (x : Node) : Type 0 where
   pub below : g .at u < g .s
   pub who : g .who (g .at u) ≡ u
   pub bit : g .bit (g .at u) ≡ toggle
-  pub home : my ≡ numberOf u toggle
+  pub home : my ≡ nodeNumber u toggle
   pub wait : x .wait ≡ waits (g .r) (g .b) (g .given) (g .at u)
   pub completed : x .completed ≡ ltb (g .at u) (g .d)
 
@@ -96,7 +96,7 @@ asked nowhere = false
 
 pub record OutFacts (row : OutRow) (u toggle my served : ℕ) (x : Node) : Type 0 where
   pub begun : T (row .begun) → served ≡ 0
-  pub chosen : T (row .chosen) → my ≡ numberOf u toggle
+  pub chosen : T (row .chosen) → my ≡ nodeNumber u toggle
   pub wait : T (row .wait) → x .wait ≡ true
   pub completed : T (row .completed) → x .completed ≡ false
   pub next : T (row .next) → x .next .0 ≡ 255

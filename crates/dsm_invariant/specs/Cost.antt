@@ -1,9 +1,10 @@
 -- Remote references of open calls, by the owners of nodes: a call that another serves makes exactly two, its Swap and its write to the predecessor's next.
-use Prim.Native.Nat.{ℕ, _+_, _/_, _≤_, _<_}
+use Prim.Native.Nat.{ℕ, _+_, _≤_, _<_}
 use mathlib.Core.Path.{_≡_}
 use mathlib.Core.List.{List}
 use lib.Dec.{ltb}
 use Rattle.machine.specs.declared.Method.the-variants.{DsmSynch}
+use Rattle.machine.specs.Owners.{ownerOf}
 use Rattle.dsm_synch.specs.Lines.{Line, accesses}
 use Rattle.copies.specs.Remote.{referredBy}
 use Rattle.step.specs.Entry.{oneIf}
@@ -22,4 +23,4 @@ price k = oneIf (ltb 7 k) + oneIf (ltb 9 k)
 pub record Cost (n : ℕ) (v : View) (cost : ℕ → ℕ) : Type 0 where
   pub spent : (u : ℕ) → u < n → 2 ≤ v .thread u .line → v .thread u .line ≤ 12 → cost u ≡ price (v .thread u .line)
   -- the predecessor that a Swap gave is another thread's
-  pub foreign : (u : ℕ) → u < n → 8 ≤ v .thread u .line → v .thread u .line ≤ 9 → v .thread u .pred .0 / 2 ≡ u → ⊥
+  pub foreign : (u : ℕ) → u < n → 8 ≤ v .thread u .line → v .thread u .line ≤ 9 → ownerOf (v .thread u .pred) ≡ u → ⊥

@@ -1,7 +1,8 @@
 -- The ledger of a DSM-Synch run: positions in Swap order, and how far the serving of them has come. A proof keeps it beside the machine; no code does.
-use Prim.Native.Nat.{ℕ, suc, _+_, _*_}
+use Prim.Native.Nat.{ℕ, suc}
 use mathlib.Core.Bool.{Bool, true, false, cond}
 use Rattle.machine.specs.Fields.{isNull}
+use Rattle.machine.specs.Owners.{nodeOf}
 use Rattle.dsm_synch.specs.Lines.{Line, L0, L1, L2, L3, L4, L5, L6, L7, L8, L9, L10, L11, L12, L13, L14, L15, L16, L17, L18, L19, L20, L21, L22, L23, L24, L25, L26, L27, L28}
 use Rattle.invariant.specs.Ledger.{upd}
 use Rattle.invariant.specs.View.{View}
@@ -24,11 +25,11 @@ pub record Ledger : Type 0 where
   pub at : ℕ → ℕ
 
 -- the number of thread t's node at a place of MyNodes, and of the node of a position
-unfoldable pub numberOf : ℕ → ℕ → ℕ
-numberOf t place = 2 * t + place
+unfoldable pub nodeNumber : ℕ → ℕ → ℕ
+nodeNumber t place = nodeOf t place .0
 
 abbrev pub nodeAt : Ledger → ℕ → ℕ
-nodeAt g i = numberOf (g .who i) (g .bit i)
+nodeAt g i = nodeNumber (g .who i) (g .bit i)
 
 -- a ledger with other links and counts
 abbrev pub going : Ledger → (ℕ → Bool) → ℕ → ℕ → ℕ → ℕ → ℕ → Bool → Ledger

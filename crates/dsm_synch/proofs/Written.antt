@@ -8,16 +8,16 @@ use borrow.Author.Tests.{eq-eqb}
 use Rattle.object.specs.declared.Request.{Request}
 use Rattle.object.specs.declared.Answer.{Answer}
 use Rattle.object.specs.Each.{Each}
-use Rattle.object.proofs.Choice.{by-test}
+use Rattle.object.proofs.Choice.{by-test, either}
 use Rattle.machine.specs.declared.NodeId.{NodeId}
 use Rattle.machine.specs.declared.Node.{Node}
 use Rattle.machine.specs.declared.Thread.{Thread}
 use Rattle.machine.specs.declared.Effect.{Effect}
 use Rattle.machine.specs.declared.Event.{Event}
-use Rattle.machine.specs.declared.Event.the-variants.{TurnEnds, Spins, Other}
+use Rattle.machine.specs.declared.Event.the-variants.{Swaps, Applies, TurnEnds, Returns, Spins, Other}
 use Rattle.machine.specs.Fields.{isNull}
-use Rattle.machine.specs.Events.{givenTold, reqTold, retTold}
-use Rattle.machine.specs.Accesses.{Access}
+use Rattle.machine.specs.Events.{sameEvent, givenTold, reqTold, retTold}
+use Rattle.machine.specs.Accesses.{Access, read, write, swap, cas}
 use Rattle.machine.proofs.Memory.{FindsSame, ofTail, writtenInto}
 use Rattle.dsm_synch.specs.Lines.{Line, empties, accesses, pointed, target, eventIn, L0, L1, L2, L3, L4, L5, L6, L7, L8, L9, L10, L11, L12, L13, L14, L15, L16, L17, L18, L19, L20, L21, L22, L23, L24, L25, L26, L27, L28}
 use Rattle.dsm_synch.specs.Effect.{executed}
@@ -28,18 +28,52 @@ pub record TellsSame (event′ event : Event) (y x : Node) (to′ to : NodeId) :
   pub ret : retTold event′ y ≡ retTold event x
   pub given : givenTold event′ to′ ≡ givenTold event to
 
--- one that may spin, or end a turn, tells none of these, whichever it is
-silent-spin : (test′ test : Bool) (y x : Node) (to′ to : NodeId) → TellsSame (cond test′ Spins Other) (cond test Spins Other) y x to′ to
-silent-spin true true y x to′ to = search
-silent-spin true false y x to′ to = search
-silent-spin false true y x to′ to = search
-silent-spin false false y x to′ to = search
+-- one that may be an event which tells none of these, or no event, tells none
+silent : (event : Event) → sameEvent event Swaps ≡ false → sameEvent event Applies ≡ false → sameEvent event Returns ≡ false
+    → (test′ test : Bool) (y x : Node) (to′ to : NodeId) → TellsSame (cond test′ event Other) (cond test event Other) y x to′ to
+silent event swaps applies returns true true y x to′ to = record { req = rw applies; ret = rw returns; given = rw swaps }
+silent event swaps applies returns true false y x to′ to = record { req = rw applies; ret = rw returns; given = rw swaps }
+silent event swaps applies returns false true y x to′ to = record { req = rw applies; ret = rw returns; given = rw swaps }
+silent event swaps applies returns false false y x to′ to = search
 
-silent-end : (test′ test : Bool) (y x : Node) (to′ to : NodeId) → TellsSame (cond test′ TurnEnds Other) (cond test TurnEnds Other) y x to′ to
-silent-end true true y x to′ to = search
-silent-end true false y x to′ to = search
-silent-end false true y x to′ to = search
-silent-end false false y x to′ to = search
+-- a write goes to node m
+abbrev WritesAt : NodeId → Access → Type 0
+WritesAt m (read k field) = Unit
+WritesAt m (write k field) = k ≡ m
+WritesAt m swap = Unit
+WritesAt m cas = Unit
+
+-- the writes of a line are all to its target
+pub writes-target : (th : Thread) (x : Node) (l : Line) → Each (WritesAt (target th x l)) (accesses th x l)
+writes-target th x L0 = tt
+writes-target th x L1 = tt
+writes-target th x L2 = tt
+writes-target th x L3 = (refl, tt)
+writes-target th x L4 = (refl, tt)
+writes-target th x L5 = (refl, tt)
+writes-target th x L6 = (refl, tt)
+writes-target th x L7 = (tt, tt)
+writes-target th x L8 = tt
+writes-target th x L9 = (refl, tt)
+writes-target th x L10 = (tt, tt)
+writes-target th x L11 = (tt, tt)
+writes-target th x L12 = (tt, tt)
+writes-target th x L13 = tt
+writes-target th x L14 = tt
+writes-target th x L15 = tt
+writes-target th x L16 = (tt, (refl, tt))
+writes-target th x L17 = (refl, tt)
+writes-target th x L18 = (refl, tt)
+writes-target th x L19 = (tt, either (Each (WritesAt (th .tmp))) (isNull (x .next)) (λ none. tt) (λ some. (tt, (tt, tt))))
+writes-target th x L20 = tt
+writes-target th x L21 = (tt, tt)
+writes-target th x L22 = (tt, tt)
+writes-target th x L23 = (tt, tt)
+writes-target th x L24 = (tt, tt)
+writes-target th x L25 = (tt, tt)
+writes-target th x L26 = (tt, (refl, tt))
+writes-target th x L27 = (refl, tt)
+writes-target th x L28 = (tt, tt)
 
 -- thread t, th, with the request of its call and the object's answer, runs a line; a memory gives the nodes
 module _ (t : ℕ) (th : Thread) (h : ℕ) (request : Request) (answer : Answer) (l : Line) where
@@ -114,7 +148,7 @@ module _ (t : ℕ) (th : Thread) (h : ℕ) (request : Request) (answer : Answer)
     target = refl;
     thread = rw (agree .0);
     event = rw (agree .0);
-    tells = silent-spin (other (th .my) .wait) (memory (th .my) .wait) _ _ _ _;
+    tells = silent Spins refl refl refl (other (th .my) .wait) (memory (th .my) .wait) _ _ _ _;
     node = refl;
     tail = refl;
   }
@@ -135,7 +169,7 @@ module _ (t : ℕ) (th : Thread) (h : ℕ) (request : Request) (answer : Answer)
     target = refl;
     thread = rw (tails refl);
     event = rw (tails refl);
-    tells = silent-end (empties tail′ (th .tmp)) (empties tail (th .tmp)) _ _ _ _;
+    tells = silent TurnEnds refl refl refl (empties tail′ (th .tmp)) (empties tail (th .tmp)) _ _ _ _;
     node = refl;
     tail = rw (tails refl);
   }
@@ -145,7 +179,7 @@ module _ (t : ℕ) (th : Thread) (h : ℕ) (request : Request) (answer : Answer)
     target = refl;
     thread = rw (agree .0);
     event = rw (agree .0);
-    tells = silent-spin (isNull (other (th .tmp) .next)) (isNull (memory (th .tmp) .next)) _ _ _ _;
+    tells = silent Spins refl refl refl (isNull (other (th .tmp) .next)) (isNull (memory (th .tmp) .next)) _ _ _ _;
     node = refl;
     tail = refl;
   }

@@ -124,8 +124,8 @@ module _ (th : Thread) (x : Node) where
   accesses L27 = write (th .tmp) Next ∷ []
   accesses L28 = read (th .my) Ret ∷ []
 
--- the node that a line points to, x in the rest: the first that it reads or writes; a line that accesses none has myNode (null before line 3) or tmpNode, and leaves
--- it
+-- the node that a line points to, x in the rest: the first that it reads or writes; a line that accesses none has myNode, which may be null, or tmpNode, and
+-- leaves it
 abbrev pub pointed : Thread → Line → NodeId
 pointed th L0 = th .my
 pointed th L1 = th .my

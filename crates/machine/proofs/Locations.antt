@@ -1,7 +1,7 @@
 -- Which locations are one, and which accesses go to one location: document 02, No. 5. Assumes nothing.
 use Prim.Native.Nat.{ℕ}
 use mathlib.Core.Path.{_≡_, refl, sym, ap, _∙_}
-use mathlib.Core.Bool.{Bool, true, false, false≢true}
+use mathlib.Core.Bool.{true, false, false≢true}
 use mathlib.Core.List.{List, [], _∷_}
 use mathlib.Core.Logic.{_↔_}
 use borrow.Author.Tests.{eqb-true, eq-eqb}
@@ -23,11 +23,11 @@ pub same-exactly : (l l′ : Location) → (sameLocation l l′ ≡ true) ↔ (l
 same-exactly l l′ = (same-one l l′, λ e. rw (sym e) (one-same l))
 
 -- the node of an access, of a Swap or a CAS none
-abbrev pub nodeOf : Access → List NodeId
-nodeOf (read node field) = node ∷ []
-nodeOf (write node field) = node ∷ []
-nodeOf swap = []
-nodeOf cas = []
+abbrev pub itsNode : Access → List NodeId
+itsNode (read node field) = node ∷ []
+itsNode (write node field) = node ∷ []
+itsNode swap = []
+itsNode cas = []
 
 -- the node of a location, of Tail none; and the location of a node, or of none
 abbrev nodeAt : Location → List NodeId
@@ -38,21 +38,21 @@ abbrev locationOf : List NodeId → Location
 locationOf [] = tail
 locationOf (node ∷ nodes) = whole node
 
-its-node : (a : Access) → nodeAt (located a) ≡ nodeOf a
-its-node (read node field) = refl
-its-node (write node field) = refl
-its-node swap = refl
-its-node cas = refl
+node-at : (a : Access) → nodeAt (located a) ≡ itsNode a
+node-at (read node field) = refl
+node-at (write node field) = refl
+node-at swap = refl
+node-at cas = refl
 
-its-location : (a : Access) → locationOf (nodeOf a) ≡ located a
-its-location (read node field) = refl
-its-location (write node field) = refl
-its-location swap = refl
-its-location cas = refl
+location-at : (a : Access) → locationOf (itsNode a) ≡ located a
+location-at (read node field) = refl
+location-at (write node field) = refl
+location-at swap = refl
+location-at cas = refl
 
 -- two accesses go to one location exactly if they are of one node, whatever their fields, or both of Tail
-pub one-location : (a b : Access) → (located a ≡ located b) ↔ (nodeOf a ≡ nodeOf b)
+pub one-location : (a b : Access) → (located a ≡ located b) ↔ (itsNode a ≡ itsNode b)
 one-location a b = (
-  λ e. sym (its-node a) ∙ ap nodeAt e ∙ its-node b,
-  λ e. sym (its-location a) ∙ ap locationOf e ∙ its-location b,
+  λ e. sym (node-at a) ∙ ap nodeAt e ∙ node-at b,
+  λ e. sym (location-at a) ∙ ap locationOf e ∙ location-at b,
 )

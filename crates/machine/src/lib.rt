@@ -1,4 +1,4 @@
-// Threads, nodes and Tail, the accesses of a line to them, and what an entry is. No printed line is looked at here.
+// Threads, nodes and Tail, the accesses of a line to them, and what an entry is. What a printed line does is not looked at here.
 ghost use mathlib.Core.Path.{_≡_};
 ghost use Rattle.machine.specs.Fields.{isNull, isEmptyReq, isEmptyRet};
 ghost use Rattle.machine.specs.Accesses.{pointed};

@@ -1,18 +1,17 @@
--- Laws of lines and their numbers, of where a thread stands that runs one, and of a test as a number. Assumes nothing.
-use Prim.Native.Nat.{ℕ, zero, suc, _+_, _≤_, _<_}
+-- Laws of CC-Synch's lines and their numbers, and of a test as a number. Assumes nothing.
+use Prim.Native.Nat.{ℕ, zero, suc, _≤_}
 use native.Mathlib.Omega.{arith}
 use mathlib.Core.Path.{_≡_, refl}
-use mathlib.Core.Bool.{Bool, true, false, cond, _||_, false≢true, and-eq-true-iff}
+use mathlib.Core.Bool.{Bool, true, false, _||_, false≢true, and-eq-true-iff}
 use mathlib.Core.List.{_∷_}
 use lib.Dec.{eqb, eqb·suc-zero}
-use borrow.Author.Tests.{eqb-true, leb-true, lt-leb}
+use borrow.Author.Tests.{eqb-true, leb-true}
 use Rattle.object.specs.Each.{Each}
 use Rattle.machine.proofs.Lines.{number-at, each-of, by-number}
 use Rattle.cc_lines.specs.Lines.{Line, printed, lineOf, L0, L1, L2, L3, L4, L5, L6, L7, L8, L9, L10, L11, L12, L13, L14, L15, L16, L17, L18, L19, L20, L21}
 use Rattle.state.specs.Range.{lineInRange}
 use Rattle.step.specs.Entry.{oneIf}
 use Rattle.step.specs.Numbers.{number}
-use Rattle.machine.specs.Lines.{standsAt}
 
 pub number-of : (k : ℕ) → k ≤ 21 → number (lineOf k) ≡ k
 number-of k h = omega (arith, number-at number L0 0 (L0 ∷ printed) k (omega arith) (omega arith))

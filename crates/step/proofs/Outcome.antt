@@ -3,10 +3,8 @@ use Prim.Native.Nat.{ℕ, _+_, _-_, _≤_, _<_}
 use native.Mathlib.Omega.{arith}
 use mathlib.Core.Path.{_≡_, refl, subst, ap, _∙_}
 use mathlib.Core.Bool.{Bool, true, false, cond, not, _&&_, and-true, and-assoc, and-eq-true-iff}
-use lib.Dec.{ltb}
 use lib.ListN.{length, take}
 use lib.Ieee.Bits.{is-true}
-use borrow.Author.Tests.{ltb-true}
 use Rattle.object.specs.declared.Kind.{Kind}
 use Rattle.object.specs.declared.Request.{Request}
 use Rattle.object.specs.declared.Object.{Object}

@@ -55,7 +55,7 @@ module _ (s : State) (t : ThreadId) (shaped : Shaped s) where
   pub dsm-stays-shaped : Shaped (dsm.entered s t)
   dsm-stays-shaped =
       shaped-with s t (dsm.written s t) (dsm.effect s t) (dsm.applied s t) (dsm.references s t .copies) (dsm.countsAfter s t) shaped
-      (ap length (copies-stay (s .n) (t .0) (s .copies) (dsm.made s t)) ∙ shaped .copies) (items-kept s (dsm.event s t) (dsm.node s t .req) shaped)
+      (ap length (copies-stay (s .n) (t .0) (s .copies) (dsm.accesses s t)) ∙ shaped .copies) (items-kept s (dsm.event s t) (dsm.node s t .req) shaped)
 
 -- a state as `step` takes it: arrays of full length, and each number in its range
 pub record Sound (s : State) : Type 0 where

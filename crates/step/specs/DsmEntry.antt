@@ -1,5 +1,4 @@
 -- What one schedule entry does to a state by DSM-Synch: document 02, No. 6. As Entry.antt has it of CC-Synch.
-use Prim.Native.Nat.{ℕ}
 use mathlib.Core.Bool.{Bool}
 use mathlib.Core.List.{List}
 use lib.ListN.{getD}
@@ -11,7 +10,8 @@ use Rattle.machine.specs.declared.Node.{Node}
 use Rattle.machine.specs.declared.Event.{Event}
 use Rattle.machine.specs.declared.Effect.{Effect}
 use Rattle.machine.specs.Accesses.{Access}
-use Rattle.dsm_synch.specs.Lines.{Line, lineOf, empties, accesses, pointed, target, eventIn}
+use Rattle.dsm_synch.specs.Lines.{Line, lineOf, empties, pointed, target, eventIn}
+use Rattle.dsm_synch.specs.Lines as lines
 use Rattle.dsm_synch.specs.Effect.{meetsNull, takesOut, executed}
 use Rattle.copies.specs.Remote.{Referred, referredBy}
 use Rattle.state.specs.declared.Counts.{Counts}
@@ -23,11 +23,11 @@ module _ (s : State) (t : ThreadId) where
   runs = lineOf (line s t)
 
   -- the node that the line points to, and the one behind it
-  abbrev pub first : NodeId
-  first = pointed (named s t) runs
+  abbrev pub pointsTo : NodeId
+  pointsTo = pointed (named s t) runs
 
   abbrev pub node : Node
-  node = getD (s .nodes) (first .0) zeroNode
+  node = getD (s .nodes) (pointsTo .0) zeroNode
 
   abbrev pub behind : Node
   behind = getD (s .nodes) (node .next .0) zeroNode
@@ -48,12 +48,12 @@ module _ (s : State) (t : ThreadId) where
   effect = executed (t .0) (named s t) node behind (s .tail) (s .h) (request s t) (applied .answer) runs
 
   -- the accesses that it makes, in order
-  abbrev pub made : List Access
-  made = accesses (named s t) node runs
+  abbrev pub accesses : List Access
+  accesses = lines.accesses (named s t) node runs
 
   -- and which of them are remote
   abbrev pub references : Referred
-  references = referredBy DsmSynch (s .n) (t .0) (s .copies) made
+  references = referredBy DsmSynch (s .n) (t .0) (s .copies) accesses
 
   abbrev pub countsAfter : Counts
   countsAfter = plus (s .counts) (moreOf event (references .remote))
@@ -64,8 +64,8 @@ module _ (s : State) (t : ThreadId) where
 
   -- whether the entry gives 14 because its line meets null, and whether for that or another of the line's own causes; what ranges and counts of a state add belongs
   -- to the single step
-  abbrev pub null-met : Bool
-  null-met = meetsNull (named s t) node (line s t)
+  abbrev pub nullMet : Bool
+  nullMet = meetsNull (named s t) node (line s t)
 
   abbrev pub out : Bool
   out = takesOut (named s t) node (s .h) (line s t)
