@@ -9,17 +9,13 @@ use Rattle.object.specs.Each.{Each}
 use Rattle.machine.specs.declared.NodeId.{NodeId}
 use Rattle.machine.specs.declared.Node.{Node}
 use Rattle.machine.specs.declared.Thread.{Thread}
-use Rattle.machine.specs.declared.Effect.{Effect}
 use Rattle.machine.specs.declared.Event.the-variants.{Spins}
 use Rattle.machine.specs.Events.{sameEvent}
 use Rattle.machine.specs.Lines.{upFrom}
+use Rattle.machine.specs.Threads.{withLine}
 use Rattle.cc_lines.specs.Lines.{printed, lineOf, rowOf, eventIn}
 use Rattle.cc_lines.proofs.Follows.{spin-follows}
-use Rattle.cc_synch.specs.Effect.{goes, lineDoes, executed}
-
--- an effect with its thread at a line
-abbrev pub withLine : ℕ → Effect → Effect
-withLine on e = record { refusal = e .refusal; thread = goes (e .thread) on; node = e .node; tail = e .tail }
+use Rattle.cc_synch.specs.Effect.{lineDoes, executed}
 
 -- no printed line names the line that follows: whichever it is given, it leaves its thread there, and does the same in all else
 pub names-no-line : (th : Thread) (x : Node) (tail : NodeId) (request : Request) (answer : Answer) (on other : ℕ)

@@ -11,42 +11,7 @@ use Rattle.machine.specs.declared.Effect.{Effect}
 use Rattle.machine.specs.Fields.{null, isNull, isEmptyReq, isEmptyRet, withReq, withRet, withWait, withCompleted, withNext}
 use Rattle.cc_lines.specs.Lines.{Line, lineOf, following, L0, L1, L2, L3, L4, L5, L6, L7, L8, L9, L10, L11, L12, L13, L14, L15, L16, L17, L18, L19, L20, L21}
 use Rattle.machine.specs.Lines.{lineRun}
-
--- a thread that goes on to a line, with its variables given; those of DSM-Synch stay
-module _ (th : Thread) (line : ℕ) where
-  abbrev pub having : NodeId → NodeId → NodeId → NodeId → ℕ → Thread
-  having own cur tmp tmpnext served = record {
-    count = th .count;
-    begun = th .begun;
-    line = line;
-    own = own;  -- node_i
-    cur = cur;  -- curNode
-    tmp = tmp;  -- tmpNode
-    tmpnext = tmpnext;  -- tmpNodeNext
-    served = served;  -- counter
-    toggle = th .toggle;
-    my = th .my;
-    pred = th .pred;
-  }
-
-  abbrev pub goes : Thread
-  goes = having (th .own) (th .cur) (th .tmp) (th .tmpnext) (th .served)
-
-  -- one of its variables set
-  abbrev pub withOwn : NodeId → Thread
-  withOwn own = having own (th .cur) (th .tmp) (th .tmpnext) (th .served)
-
-  abbrev pub withCur : NodeId → Thread
-  withCur cur = having (th .own) cur (th .tmp) (th .tmpnext) (th .served)
-
-  abbrev pub withTmp : NodeId → Thread
-  withTmp tmp = having (th .own) (th .cur) tmp (th .tmpnext) (th .served)
-
-  abbrev pub withTmpnext : NodeId → Thread
-  withTmpnext tmpnext = having (th .own) (th .cur) (th .tmp) tmpnext (th .served)
-
-  abbrev pub withServed : ℕ → Thread
-  withServed served = having (th .own) (th .cur) (th .tmp) (th .tmpnext) served
+use Rattle.machine.specs.Threads.{goes, withOwn, withCur, withTmp, withTmpnext, withServed, keeping, writing}
 
 -- line 1 adds 1 to the requests begun, sets the served counter to 0 and curNode, tmpNode and tmpNodeNext to null
 abbrev pub begins : Thread → ℕ → Thread
@@ -80,13 +45,11 @@ takesOut th x h line =
 
 -- the thread, the node that it points to, and Tail
 module _ (th : Thread) (x : Node) (tail : NodeId) where
-  -- neither the node nor Tail changes
   abbrev pub keeps : Thread → Effect
-  keeps after = record { refusal = 0; thread = after; node = x; tail = tail }
+  keeps = keeping x tail
 
-  -- the node is written, and the thread goes on to a line
   abbrev pub writes : Node → ℕ → Effect
-  writes after line = record { refusal = 0; thread = goes th line; node = after; tail = tail }
+  writes = writing th tail
 
   -- what a printed line does, by its statement, if its thread goes on to the line `on`; a blank leaves it where it is. The request is that of the
   -- thread's call, the answer the object's to the node's req; nextNode is the thread's own node until line 8

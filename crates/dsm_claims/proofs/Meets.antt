@@ -3,15 +3,13 @@ use Prim.Native.Nat.{ℕ, _+_, _≤_}
 use native.Mathlib.Omega.{arith}
 use mathlib.Core.Path.{_≡_, refl, sym, _∙_, ap}
 use mathlib.Core.Bool.{Bool, true, cond}
-use mathlib.Core.List.{[], _∷_}
-use lib.ListN.{getD}
 use lib.Dec.{eqb, leb}
-use borrow.Author.Tests.{eqb-true, eq-eqb, ne-eqb}
+use borrow.Author.Tests.{eqb-true, eq-eqb}
 use Rattle.object.specs.declared.Request.{Request}
 use Rattle.object.specs.declared.Answer.{Answer}
 use Rattle.object.proofs.Choice.{by-equal, by-test}
 use Rattle.machine.specs.declared.Event.{Event}
-use Rattle.machine.specs.declared.Event.the-variants.{Blank, CallBegins, Swaps, TurnBegins, Applies, TurnEnds, Returns, Spins, Other}
+use Rattle.machine.specs.declared.Event.the-variants.{Swaps, TurnBegins, Applies, TurnEnds, Returns}
 use Rattle.machine.specs.Events.{eventNumber, sameEvent}
 use Rattle.machine.specs.Lines.{standsAt}
 use Rattle.dsm_synch.specs.Lines.{Line, number, pointed, eventIn}
@@ -27,29 +25,9 @@ use Rattle.dsm_invariant.proofs.Follows.{each-after, each-run}
 use Rattle.dsm_invariant.proofs.Events.{Told, told}
 use Rattle.dsm_invariant.proofs.Threads.{lastLine, at-below, one-turn, waits-served, known-at, turn-applied, no-turn, serving, turn-ends, not-given, last}
 use Rattle.history.specs.Entries.{Entry, Is}
-use Rattle.history.specs.Method.{Goes, blank, begins, swaps, turns, applies, ends, helped, leaves, other, Moves, idle, calling, waiting, combining, leaving}
+use Rattle.history.specs.Method.{Goes, begins, swaps, turns, applies, ends, Moves, leaving}
+use Rattle.history.proofs.Phases.{comesFrom, goesTo, goes-by}
 use Rattle.dsm_claims.proofs.Seen.{phaseOf, seenOf, positionsOf, phase-queued, phase-combines, phase-waits}
-
--- the phases that an event takes a thread from and to; a spin, or an entry of which nothing is said, leaves it where it is, i
-abbrev comesFrom : Event → ℕ → ℕ
-comesFrom event i = getD (idle ∷ idle ∷ calling ∷ waiting ∷ combining ∷ combining ∷ cond (eqb i waiting) waiting leaving ∷ []) (eventNumber event) i
-
-abbrev goesTo : Event → ℕ → ℕ
-goesTo event i = getD (idle ∷ calling ∷ waiting ∷ combining ∷ combining ∷ leaving ∷ idle ∷ []) (eventNumber event) i
-
--- and a call begins with its own event alone
-goes-by : (event : Event) {i b j : ℕ} → i ≡ comesFrom event i → j ≡ goesTo event i → 1 ≤ cond (leb (eventNumber event) 6) 1 i
-    → Goes (eventNumber event) i b j (b + oneIf (sameEvent event CallBegins))
-goes-by Blank from to busy = blank refl from to (omega arith)
-goes-by CallBegins from to busy = begins refl from to (omega arith)
-goes-by Swaps from to busy = swaps refl from to (omega arith)
-goes-by TurnBegins from to busy = turns refl from to (omega arith)
-goes-by Applies from to busy = applies refl from to (omega arith)
-goes-by TurnEnds from to busy = ends refl from to (omega arith)
-goes-by Returns {i} from to busy =
-    by-equal i waiting (λ q. helped refl q to (omega arith)) (λ q. leaves refl (rw (ne-eqb i waiting q) at from) to (omega arith))
-goes-by Spins from to busy = other (omega arith) busy to (omega arith)
-goes-by Other from to busy = other (omega arith) busy to (omega arith)
 
 -- the entry of thread t's line: a Swap assigns myNode, and what is applied is the req of the node that the line points to
 pub record Tells (v : View) (t : ℕ) (l : Line) (e : Entry) : Type 0 where

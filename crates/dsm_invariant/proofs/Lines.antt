@@ -9,7 +9,7 @@ use Rattle.object.specs.declared.Request.{Request}
 use Rattle.object.specs.declared.Answer.{Answer}
 use Rattle.machine.specs.Fields.{isNull}
 use Rattle.dsm_synch.specs.Lines.{Line, L1, L2, L8, L9, L10, L11, L13, L27}
-use Rattle.dsm_synch.specs.Effect.{goes}
+use Rattle.machine.specs.Threads.{goes}
 use Rattle.invariant.specs.Ledger.{upd}
 use Rattle.invariant.specs.View.{View}
 use Rattle.dsm_invariant.specs.Stages.{out, idle, o2, wait, w8, w9, w10, w13, leave, v27, v28, queued}

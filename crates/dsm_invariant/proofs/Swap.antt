@@ -8,7 +8,7 @@ use Rattle.object.specs.declared.Request.{Request}
 use Rattle.object.specs.declared.Answer.{Answer}
 use Rattle.machine.specs.declared.NodeId.{NodeId}
 use Rattle.dsm_synch.specs.Lines.{L7}
-use Rattle.dsm_synch.specs.Effect.{withPred}
+use Rattle.machine.specs.Threads.{withPred}
 use Rattle.invariant.specs.View.{View}
 use Rattle.dsm_invariant.specs.Stages.{wait, w8, stageOf, queued}
 use Rattle.dsm_invariant.specs.Ledger.{Ledger, nodeNumber, nodeAt, swapped}

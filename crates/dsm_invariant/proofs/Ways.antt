@@ -11,7 +11,7 @@ use Rattle.machine.specs.declared.NodeId.{NodeId}
 use Rattle.machine.specs.declared.Node.{Node}
 use Rattle.machine.specs.declared.Thread.{Thread}
 use Rattle.dsm_synch.specs.Lines.{Line}
-use Rattle.dsm_synch.specs.Effect.{having, goes}
+use Rattle.machine.specs.Threads.{having, goes}
 use Rattle.invariant.specs.View.{View}
 use Rattle.dsm_invariant.specs.Stages.{stageOf, queued}
 use Rattle.dsm_invariant.specs.Ledger.{Ledger, nodeNumber, nodeAt, going, counting}
@@ -136,10 +136,10 @@ module _ {n h : ℕ} {v v′ : View} {g : Ledger} {t : ℕ} {l : Line} {request 
 
     -- in the queue: the thread goes on to a line, with its node
     module _ (line : ℕ) {tmp : NodeId} {served : ℕ}
-        (after : does v t l h request answer .thread ≡ having (v .thread t) line (v .thread t .my) (v .thread t .pred) tmp served)
+        (after : does v t l h request answer .thread ≡ having (v .thread t) line (v .thread t .own) (v .thread t .cur) tmp (v .thread t .tmpnext) served (v .thread t .my) (v .thread t .pred))
         (in-queue : T (queued (from l))) where
       abbrev th : Thread
-      th = having (v .thread t) line (v .thread t .my) (v .thread t .pred) tmp served
+      th = having (v .thread t) line (v .thread t .own) (v .thread t .cur) tmp (v .thread t .tmpnext) served (v .thread t .my) (v .thread t .pred)
 
       -- a next at most is written
       pub home : (joined : ℕ → Bool)
@@ -203,14 +203,14 @@ module _ {n h : ℕ} {v v′ : View} {g : Ledger} {t : ℕ} {l : Line} {request 
 
   -- in the turn: the node of position j is written, and counts move
   module _ (line : ℕ) {tmp : NodeId}
-      (after : does v t l h request answer .thread ≡ having (v .thread t) line (v .thread t .my) (v .thread t .pred) tmp (v .thread t .served))
+      (after : does v t l h request answer .thread ≡ having (v .thread t) line (v .thread t .own) (v .thread t .cur) tmp (v .thread t .tmpnext) (v .thread t .served) (v .thread t .my) (v .thread t .pred))
       (in-queue : T (queued (from l))) (stays : T (queued (stageOf line))) {row : CombineRow}
       (turn : CombineFacts row h g (g .at t) (v .thread t .tmp .0) (v .thread t .served)) (j a d r b k : ℕ) (given : Bool) where
     abbrev g′ : Ledger
     g′ = counting g a d r b k given
 
     abbrev turned : Thread
-    turned = having (v .thread t) line (v .thread t .my) (v .thread t .pred) tmp (v .thread t .served)
+    turned = having (v .thread t) line (v .thread t .own) (v .thread t .cur) tmp (v .thread t .tmpnext) (v .thread t .served) (v .thread t .my) (v .thread t .pred)
 
     module _ (counts : Counted g j a d r b k given)
         (at : goal v t l ≡ nodeAt g j)

@@ -14,15 +14,15 @@ use Rattle.object.proofs.Choice.{by-test}
 use Rattle.machine.specs.declared.NodeId.{NodeId}
 use Rattle.machine.specs.declared.Node.{Node}
 use Rattle.machine.specs.declared.Thread.{Thread}
-use Rattle.machine.specs.declared.Effect.{Effect}
 use Rattle.machine.specs.declared.Event.{Event}
 use Rattle.machine.specs.declared.Event.the-variants.{Swaps, TurnEnds, Spins, Other}
 use Rattle.machine.specs.Fields.{isNull}
 use Rattle.machine.specs.Events.{sameEvent}
 use Rattle.machine.specs.Lines.{upFrom, beside}
+use Rattle.machine.specs.Threads.{withLine}
 use Rattle.dsm_synch.specs.Lines.{Line, L7, printed, number, accesses, assigned, eventIn, empties, following}
 use Rattle.dsm_synch.proofs.Numbers.{each-line}
-use Rattle.dsm_synch.specs.Effect.{goes, lineDoes, executed}
+use Rattle.dsm_synch.specs.Effect.{lineDoes, executed}
 use Rattle.dsm_synch.specs.Said.{sharedAccesses, saidEvents, saidFollowing}
 
 -- lines 1 to 28 make the accesses that stand beside their numbers, and no others; line 19 one or three, by what it finds
@@ -44,10 +44,6 @@ module _ (x y : Node) (emptied : Bool) where
   pub follows-as-said : (pred : NodeId) (served h : ℕ)
       → map (following x y pred emptied served h) printed ≡ map (λ k. beside (k + 1) k (saidFollowing x emptied y pred served h)) (upFrom 1 28)
   follows-as-said pred served h = refl
-
--- an effect with its thread at a line
-abbrev pub withLine : ℕ → Effect → Effect
-withLine on e = record { refusal = e .refusal; thread = goes (e .thread) on; node = e .node; tail = e .tail }
 
 -- no printed line names the line that follows: whichever it is given, it leaves its thread there, and does the same in all else
 pub names-no-line : (t : ℕ) (th : Thread) (x y : Node) (tail : NodeId) (request : Request) (answer : Answer) (on other : ℕ)

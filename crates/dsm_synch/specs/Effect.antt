@@ -10,40 +10,8 @@ use Rattle.machine.specs.declared.Thread.{Thread}
 use Rattle.machine.specs.declared.Effect.{Effect}
 use Rattle.machine.specs.Fields.{null, isNull, isEmptyReq, isEmptyRet, withReq, withRet, withWait, withCompleted, withNext}
 use Rattle.machine.specs.Owners.{nodeOf}
+use Rattle.machine.specs.Threads.{goes, withMy, withPred, withTmp, withServed, keeping, writing}
 use Rattle.dsm_synch.specs.Lines.{Line, empties, following, L0, L1, L2, L3, L4, L5, L6, L7, L8, L9, L10, L11, L12, L13, L14, L15, L16, L17, L18, L19, L20, L21, L22, L23, L24, L25, L26, L27, L28}
-
--- a thread that goes on to a line, with its variables given; those of CC-Synch stay
-module _ (th : Thread) (line : ℕ) where
-  abbrev pub having : NodeId → NodeId → NodeId → ℕ → Thread
-  having my pred tmp served = record {
-    count = th .count;
-    begun = th .begun;
-    line = line;
-    own = th .own;
-    cur = th .cur;
-    tmp = tmp;  -- tmpNode
-    tmpnext = th .tmpnext;
-    served = served;  -- counter
-    toggle = th .toggle;
-    my = my;  -- myNode
-    pred = pred;  -- myPredNode
-  }
-
-  abbrev pub goes : Thread
-  goes = having (th .my) (th .pred) (th .tmp) (th .served)
-
-  -- one of its variables set
-  abbrev pub withMy : NodeId → Thread
-  withMy my = having my (th .pred) (th .tmp) (th .served)
-
-  abbrev pub withPred : NodeId → Thread
-  withPred pred = having (th .my) pred (th .tmp) (th .served)
-
-  abbrev pub withTmp : NodeId → Thread
-  withTmp tmp = having (th .my) (th .pred) tmp (th .served)
-
-  abbrev pub withServed : ℕ → Thread
-  withServed served = having (th .my) (th .pred) (th .tmp) served
 
 -- line 1 adds 1 to the requests begun, sets the served counter to 0, toggles, and empties myNode, myPredNode and tmpNode
 abbrev pub begins : Thread → ℕ → Thread
@@ -81,13 +49,11 @@ takesOut th x h line =
 
 -- thread t, th; x, the node that its line points to, and y, the node behind x; and Tail
 module _ (t : ℕ) (th : Thread) (x y : Node) (tail : NodeId) where
-  -- neither a node nor Tail changes
   abbrev pub keeps : Thread → Effect
-  keeps after = record { refusal = 0; thread = after; node = x; tail = tail }
+  keeps = keeping x tail
 
-  -- the node is written, and the thread goes on to a line
   abbrev pub writes : Node → ℕ → Effect
-  writes after line = record { refusal = 0; thread = goes th line; node = after; tail = tail }
+  writes = writing th tail
 
   -- what a printed line does, by its statement, if its thread goes on to the line `on`; a blank leaves it where it is. The request is that of the thread's call, the
   -- answer the object's to the node's req. The node that is written is y at line 26, else x

@@ -1,6 +1,7 @@
 pub mod Calls
 pub mod Copies
 pub mod OfCall
+pub mod Phases
 pub mod Places
 pub mod Shown
 pub mod Stopped

@@ -8,7 +8,7 @@ use borrow.Author.Tests.{le-ltb}
 use Rattle.object.specs.declared.Request.{Request}
 use Rattle.object.specs.declared.Answer.{Answer}
 use Rattle.cc_lines.specs.Lines.{L5}
-use Rattle.cc_synch.specs.Effect.{withCur}
+use Rattle.machine.specs.Threads.{withCur}
 use Rattle.invariant.specs.Stages.{wait, w6, queued}
 use Rattle.invariant.specs.Ledger.{Ledger, swapped}
 use Rattle.invariant.specs.View.{View, Does}

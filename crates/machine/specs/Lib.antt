@@ -4,3 +4,4 @@ pub mod Fields
 pub mod Lines
 pub mod Owners
 pub mod Sizes
+pub mod Threads
