@@ -34,7 +34,7 @@ use Rattle.dsm_synch.proofs.Numbers.{number-most}
 use Rattle.step.specs.Entry.{oneIf}
 use Rattle.invariant.specs.View.{View}
 use Rattle.invariant.specs.Serving.{openRequest, grown, Fed}
-use Rattle.invariant.proofs.Serving.{grown-length, grown-below, field-left, fed-fresh, fits-fresh, fits-kept, fed-grown, fed-applied, ret-next}
+use Rattle.invariant.proofs.Serving.{grown-length, grown-below, fed-fresh, fits-fresh, fits-kept, fed-grown, fed-applied, ret-next}
 use Rattle.invariant.proofs.Upd.{upd-same}
 use Rattle.dsm_invariant.specs.Stages.{idle, o2, o3, o4, o5, o6, o7, Stage, out, wait, combine, leave, nowhere, stageOf, queued}
 use Rattle.dsm_invariant.specs.Ledger.{Ledger, nodeAt, freshLedger, noted}
@@ -43,6 +43,7 @@ use Rattle.dsm_invariant.specs.Control.{asked, Control}
 use Rattle.dsm_invariant.specs.Data.{eventAt, appliedBy, calling, CallData, Data}
 use Rattle.dsm_invariant.proofs.Basics.{thread-told}
 use Rattle.dsm_invariant.proofs.Places.{from, placed, only-at}
+use Rattle.dsm_invariant.proofs.Frame.{field-same}
 use Rattle.dsm_invariant.proofs.Threads.{chosen, inQueue, lastLine, by-last, atTmp, points, at-below, my-home, room, serving, last as last-served}
 use Rattle.dsm_invariant.proofs.Events.{told}
 use Rattle.dsm_invariant.proofs.Notes.{notes, at-kept}
@@ -228,7 +229,7 @@ module _ {n h : ℕ} {v : View} {g : Ledger} (c : Control n h v g) {requests : �
 
     -- the nodes afterwards, by what the line does to the one that it writes
     field-kept : {A : Type 0} (field : Node → A) → field (effect .node) ≡ field (v .node (goal v t l)) → (m : ℕ) → field (v′ .node m) ≡ field (v .node m)
-    field-kept field e = field-left field (goal v t l) (d .there) (d .elsewhere) e
+    field-kept = field-same c d
 
     -- a line that applies nothing and leaves ret leaves the answers
     ret-kept : eqb (number l) 16 ≡ false → effect .node .ret ≡ v .node (goal v t l) .ret

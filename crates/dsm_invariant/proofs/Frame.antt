@@ -10,6 +10,7 @@ use Rattle.machine.specs.declared.Node.{Node}
 use Rattle.machine.specs.declared.Thread.{Thread}
 use Rattle.dsm_synch.specs.Lines.{Line}
 use Rattle.invariant.specs.View.{View}
+use Rattle.invariant.proofs.Serving.{field-left}
 use Rattle.dsm_invariant.specs.Stages.{Stage, out, idle, stageOf, queued}
 use Rattle.dsm_invariant.specs.Ledger.{Ledger, nodeAt, going}
 use Rattle.dsm_invariant.specs.View.{goal, does, Does}
@@ -52,7 +53,7 @@ module _ {n h : ℕ} {v v′ : View} {g : Ledger} {t : ℕ} {l : Line} {request 
   -- what the line keeps of the node that it writes it keeps of every node: a field, or all of it
   pub field-same : {A : Type 0} (field : Node → A) → field (does v t l h request answer .node) ≡ field (v .node (goal v t l))
       → (m : ℕ) → field (v′ .node m) ≡ field (v .node m)
-  field-same field same m = by-equal m (goal v t l) (λ e. rw (e, run .there) same) (λ e. ap field (run .elsewhere m e))
+  field-same field = field-left field (goal v t l) (run .there) (run .elsewhere)
 
   pub kept : does v t l h request answer .node ≡ v .node (goal v t l) → (m : ℕ) → v′ .node m ≡ v .node m
   kept = field-same (λ x. x)

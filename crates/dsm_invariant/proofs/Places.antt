@@ -2,6 +2,7 @@
 use Prim.Native.Nat.{ℕ, suc, _-_, _*_, _≤_, _<_}
 use native.Mathlib.Omega.{arith}
 use mathlib.Core.Path.{_≡_, refl, sym, _∙_, ap, ap₂, subst}
+use mathlib.Core.Bool.{true}
 use lib.Dec.{T}
 use Rattle.object.specs.declared.Request.{Request}
 use Rattle.object.specs.declared.Answer.{Answer}
@@ -13,7 +14,7 @@ use Rattle.invariant.specs.View.{View}
 use Rattle.dsm_invariant.specs.Stages.{Stage, Out, idle, o2, o3, o4, o5, o6, o7, out, wait, combine, leave, nowhere, stageOf, queued}
 use Rattle.dsm_invariant.specs.Ledger.{Ledger, nodeNumber, nodeAt}
 use Rattle.dsm_invariant.specs.View.{Does}
-use Rattle.dsm_invariant.specs.Control.{In, Old, former, preparing, outRow, Facts, Control}
+use Rattle.dsm_invariant.specs.Control.{Link, none, right, In, Old, former, preparing, outRow, Facts, Control}
 use Rattle.object.proofs.Choice.{by-equal, by-order}
 use Rattle.dsm_invariant.proofs.Basics.{thread-told, toggle-told, number-range, number-small, toggled-other}
 
@@ -70,6 +71,11 @@ preparing-out (wait w) q p = q
 preparing-out (combine w) q p = q
 preparing-out (leave w) q p = q
 preparing-out nowhere q p = p
+
+-- a position's next that is not null is right
+pub linked : {g : Ledger} (i : ℕ) {m : ℕ} → (m ≡ 255 → ⊥) → Link g i m → (suc i < g .s) × (g .joined (suc i) ≡ true) × (m ≡ nodeAt g (suc i))
+linked i some (none e) = absurd (some e)
+linked i some (right low joined e) = (low, joined, e)
 
 module _ {n h : ℕ} {v : View} {g : Ledger} (c : Control n h v g) where
   -- what a thread whose next line is known knows

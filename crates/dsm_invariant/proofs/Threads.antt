@@ -19,9 +19,9 @@ use Rattle.invariant.specs.View.{View}
 use Rattle.dsm_invariant.specs.Stages.{Stage, out, wait, combine, leave, nowhere, stages, stageOf, queued}
 use Rattle.dsm_invariant.specs.Ledger.{Ledger, nodeNumber, nodeAt}
 use Rattle.dsm_invariant.specs.View.{first, goal}
-use Rattle.dsm_invariant.specs.Control.{Link, none, right, Pred, first as pred-first, after, preparing, Control}
+use Rattle.dsm_invariant.specs.Control.{Link, Pred, first as pred-first, after, preparing, Control}
 use Rattle.dsm_invariant.proofs.Basics.{number-range}
-use Rattle.dsm_invariant.proofs.Places.{from, Knows, facts-at, queued-in, alone, prepared-home, prepared-apart, place-range}
+use Rattle.dsm_invariant.proofs.Places.{from, Knows, facts-at, queued-in, alone, prepared-home, prepared-apart, place-range, linked}
 use Rattle.dsm_invariant.proofs.Notes.{ending}
 
 -- a thread in its turn, and one in the queue with no turn begun
@@ -158,8 +158,7 @@ module _ {n h : ℕ} {v : View} {g : Ledger} (c : Control n h v g) where
   pred-range i m low some (after j e p) = rw p (place-range c j (omega arith))
 
   next-range : (i m : ℕ) → (m ≡ 255 → ⊥) → Link g i m → m < 2 * n
-  next-range i m some (none e) = absurd (some e)
-  next-range i m some (right low joined e) = rw e (place-range c (suc i) low)
+  next-range i m some l = let (low, joined, is) = linked i some l in rw is (place-range c (suc i) low)
 
 -- the node that thread t's line writes, if it writes one, is one of the 2n
 module _ {n h : ℕ} {v : View} {g : Ledger} (c : Control n h v g) {t : ℕ} (l : Line) (below : t < n) (stands : v .thread t .line ≡ standsAt (number l)) where

@@ -20,9 +20,9 @@ use Rattle.invariant.proofs.Upd.{upd-same}
 use Rattle.dsm_invariant.specs.Stages.{stageOf, queued}
 use Rattle.dsm_invariant.specs.Ledger.{Ledger, nodeNumber, nodeAt, noted, freshLedger}
 use Rattle.dsm_invariant.specs.View.{first, behind, Does}
-use Rattle.dsm_invariant.specs.Control.{Tailed, empty, last, Link, none, right, Seat, Control}
+use Rattle.dsm_invariant.specs.Control.{Tailed, empty, last, Seat, Control}
 use Rattle.dsm_invariant.specs.Tip.{Tip}
-use Rattle.dsm_invariant.proofs.Places.{from, facts-at}
+use Rattle.dsm_invariant.proofs.Places.{from, facts-at, linked}
 use Rattle.dsm_invariant.proofs.Notes.{ending, Notes, notes, at-swap, at-kept}
 use Rattle.dsm_invariant.proofs.Follows.{onto, each-run, line-after}
 use Rattle.dsm_invariant.proofs.Threads.{inQueue, inTurn, lastLine, by-last, by-ending, one-turn, known-at}
@@ -31,11 +31,6 @@ use Rattle.dsm_invariant.proofs.Threads.{inQueue, inTurn, lastLine, by-
 pub owner : (u : ℕ) {x : ℕ} → x ≤ 1 → nodeNumber u x / 2 ≡ u
 unfolding nodeNumber
 owner u {x} one = owns-both u x one
-
--- a next that is not null is right
-linked : {g : Ledger} (i : ℕ) {m : ℕ} → (m ≡ 255 → ⊥) → Link g i m → (suc i < g .s) × (m ≡ nodeAt g (suc i))
-linked i some (none e) = absurd (some e)
-linked i some (right low joined e) = (low, e)
 
 -- line 19 goes on to 21 where it finds a next behind the next
 sees-two : {n h : ℕ} {v v′ : View} {g : Ledger} {t : ℕ} {request : Request} {answer : Answer} → Control n h v g → Does n h v v′ t L19 request answer
@@ -48,7 +43,7 @@ sees-two {h = h} {v} {g = g} {t} c run e =
     let tests = both-fail (isNull (first v t L19 .next)) (isNull (behind v t L19 .next) || leb h (v .thread t .served)) goes in
     let one = linked (g .k) (eqb-false _ 255 (tests .0)) (rw (← f .serving) at (c .link (g .k) (f .below) (omega (arith, f .applied)))) in
     let two : isNull (v .node (nodeAt g (suc (g .k))) .next) ≡ false =
-    ap (λ (m : ℕ). isNull (v .node m .next)) (sym (one .1)) ∙ both-fail (isNull (behind v t L19 .next)) (leb h (v .thread t .served)) (tests .1) .0 in
+    ap (λ (m : ℕ). isNull (v .node m .next)) (sym (one .2)) ∙ both-fail (isNull (behind v t L19 .next)) (leb h (v .thread t .served)) (tests .1) .0 in
     linked (suc (g .k)) (eqb-false _ 255 two) (c .link (suc (g .k)) (one .0) (omega (arith, f .applied))) .0)
 
 module _ {n h : ℕ} {v v′ : View} {g : Ledger} {t : ℕ} {l : Line} {request : Request} {answer : Answer} (c : Control n h v g)

@@ -15,10 +15,10 @@ use Rattle.invariant.specs.View.{View}
 use Rattle.dsm_invariant.specs.Ledger.{Ledger, nodeAt, noted}
 use Rattle.dsm_invariant.specs.View.{emptied, Does}
 use Rattle.invariant.specs.Waits.{waits}
-use Rattle.dsm_invariant.specs.Control.{Tailed, empty, last, Link, none, right, CombineRow, CombineFacts, Control}
+use Rattle.dsm_invariant.specs.Control.{Tailed, empty, last, CombineRow, CombineFacts, Control}
 use Rattle.object.proofs.Choice.{either, both-fail}
 use Rattle.invariant.proofs.Waits.{waits-below, waits-same, waits-turn, turn-neither}
-use Rattle.dsm_invariant.proofs.Places.{places-apart, place-range, place-exists, known}
+use Rattle.dsm_invariant.proofs.Places.{places-apart, place-range, place-exists, known, linked}
 use Rattle.dsm_invariant.proofs.Ways.{moves, forks, far, serves}
 
 -- the turn goes on from a released position: another that does not get it waits as before
@@ -33,11 +33,7 @@ module _ {n h : ℕ} {v : View} {g : Ledger} (c : Control n h v g) {row : Combin
 
   -- its next, where it is not null, is the node of the position after it
   pub next-right : isNull (v .node tmp .next) ≡ false → (suc (g .k) < g .s) × (g .joined (suc (g .k)) ≡ true) × (v .node tmp .next .0 ≡ nodeAt g (suc (g .k)))
-  next-right e = told (eqb-false _ 255 e) (rw (f .serving) (c .link (g .k) (f .below) (c .order .one)))
-    where
-      told : {next : ℕ} → (next ≡ 255 → ⊥) → Link g (g .k) next → (suc (g .k) < g .s) × (g .joined (suc (g .k)) ≡ true) × (next ≡ nodeAt g (suc (g .k)))
-      told e (none z) = absurd (e z)
-      told e (right i j z) = (i, j, z)
+  next-right e = linked {g = g} (g .k) (eqb-false _ 255 e) (rw (f .serving) (c .link (g .k) (f .below) (c .order .one)))
 
   -- where Tail is tmpNode, nothing is left to serve
   all-served : n ≤ 16 → v .tail .0 ≡ tmp → Tailed g (v .tail .0) → g .s ≡ suc (g .k)

@@ -20,7 +20,7 @@ use Rattle.machine.specs.Fields.{isNull}
 use Rattle.machine.specs.Events.{sameEvent}
 use Rattle.machine.specs.Lines.{upFrom, beside}
 use Rattle.machine.specs.Threads.{withLine}
-use Rattle.dsm_synch.specs.Lines.{Line, L7, printed, number, accesses, assigned, eventIn, empties, following}
+use Rattle.dsm_synch.specs.Lines.{Line, L0, L1, L2, L3, L4, L5, L6, L7, L8, L9, L10, L11, L12, L13, L14, L15, L16, L17, L18, L19, L20, L21, L22, L23, L24, L25, L26, L27, L28, printed, number, accesses, assigned, eventIn, empties, following}
 use Rattle.dsm_synch.proofs.Numbers.{each-line}
 use Rattle.dsm_synch.specs.Effect.{lineDoes, executed}
 use Rattle.dsm_synch.specs.Said.{sharedAccesses, saidEvents, saidFollowing}
@@ -56,9 +56,35 @@ no-swap true event e = e
 no-swap false event e = refl
 
 pub swaps-at-7 : (x : Node) (emptied : Bool) (l : Line) → sameEvent (eventIn x emptied l) Swaps ≡ eqb (number l) 7
-swaps-at-7 x emptied =
-    each-line (λ (l : Line). sameEvent (eventIn x emptied l) Swaps ≡ eqb (number l) 7)
-    (refl, (refl, (refl, (refl, (refl, (refl, (refl, (refl, (refl, (refl, (no-swap (x .wait) Spins refl, (refl, (refl, (refl, (refl, (refl, (refl, (refl, (refl, (refl, (refl, (refl, (refl, (no-swap emptied TurnEnds refl, (refl, (no-swap (isNull (x .next)) Spins refl, (refl, (refl, (refl, tt)))))))))))))))))))))))))))))
+swaps-at-7 x emptied L0 = refl
+swaps-at-7 x emptied L1 = refl
+swaps-at-7 x emptied L2 = refl
+swaps-at-7 x emptied L3 = refl
+swaps-at-7 x emptied L4 = refl
+swaps-at-7 x emptied L5 = refl
+swaps-at-7 x emptied L6 = refl
+swaps-at-7 x emptied L7 = refl
+swaps-at-7 x emptied L8 = refl
+swaps-at-7 x emptied L9 = refl
+swaps-at-7 x emptied L10 = no-swap (x .wait) Spins refl
+swaps-at-7 x emptied L11 = refl
+swaps-at-7 x emptied L12 = refl
+swaps-at-7 x emptied L13 = refl
+swaps-at-7 x emptied L14 = refl
+swaps-at-7 x emptied L15 = refl
+swaps-at-7 x emptied L16 = refl
+swaps-at-7 x emptied L17 = refl
+swaps-at-7 x emptied L18 = refl
+swaps-at-7 x emptied L19 = refl
+swaps-at-7 x emptied L20 = refl
+swaps-at-7 x emptied L21 = refl
+swaps-at-7 x emptied L22 = refl
+swaps-at-7 x emptied L23 = no-swap emptied TurnEnds refl
+swaps-at-7 x emptied L24 = refl
+swaps-at-7 x emptied L25 = no-swap (isNull (x .next)) Spins refl
+swaps-at-7 x emptied L26 = refl
+swaps-at-7 x emptied L27 = refl
+swaps-at-7 x emptied L28 = refl
 
 -- a Swap gives Tail into myPredNode, and Tail then points to the node that it assigns
 pub swaps-in : (t : ℕ) (th : Thread) (x y : Node) (tail : NodeId) (h : ℕ) (request : Request) (answer : Answer)
@@ -85,13 +111,20 @@ module _ (t : ℕ) (th : Thread) (x y : Node) (tail : NodeId) (h : ℕ) (request
   ends-turn false = refl
 
   -- lines 10 and 25 stay or go on, 23 ends the turn or not, and 8, 11, 19 and 22 go to one of two other lines; of the rest the line that follows is known
+  from-22 : Each SpinStays (drop 21 printed)
+  from-22 =
+      (goes-either (isNull (x .next)) 23 26 22 refl refl, (ends-turn (empties tail (th .tmp)), (refl, (stays-or-goes (isNull (x .next)) 24, (refl, (refl, (refl, tt)))))))
+
   from-19 : Each SpinStays (drop 18 printed)
   from-19 =
-      (goes-either (isNull (x .next) || (isNull (y .next) || leb h (th .served))) 20 21 19 refl refl, (refl, (refl, (goes-either (isNull (x .next)) 23 26 22 refl refl, (ends-turn (empties tail (th .tmp)), (refl, (stays-or-goes (isNull (x .next)) 24, (refl, (refl, (refl, tt))))))))))
+      let test : Bool = isNull (x .next) || (isNull (y .next) || leb h (th .served)) in
+      (goes-either test 20 21 19 refl refl, (refl, (refl, from-22)))
+
+  from-11 : Each SpinStays (drop 10 printed)
+  from-11 = (goes-either (x .completed) 12 13 11 refl refl, (refl, (refl, (refl, (refl, (refl, (refl, (refl, from-19))))))))
 
   from-8 : Each SpinStays (drop 7 printed)
-  from-8 =
-      (goes-either (isNull (th .pred)) 13 9 8 refl refl, (refl, (stays-or-goes (x .wait) 9, (goes-either (x .completed) 12 13 11 refl refl, (refl, (refl, (refl, (refl, (refl, (refl, (refl, from-19)))))))))))
+  from-8 = (goes-either (isNull (th .pred)) 13 9 8 refl refl, (refl, (stays-or-goes (x .wait) 9, from-11)))
 
   pub spin-stays : Each SpinStays printed
   spin-stays = (refl, (refl, (refl, (refl, (refl, (refl, (refl, from-8)))))))
