@@ -1,5 +1,5 @@
--- What a method keeps of a state of a file's run and its entries, as the claim needs it: a chronicle, the plain object's answers, that its threads are the state's, which accesses are remote,
--- and what returned calls have cost. A definition alone.
+-- What a method keeps of a state of a file's run and its entries, as the claim needs it: a chronicle, the plain object's answers, that its threads are the
+-- state's, which accesses are remote, and what returned calls have cost. A definition alone.
 use Prim.Native.Nat.{ℕ, _<_}
 use mathlib.Core.Path.{_≡_}
 use mathlib.Core.Bool.{Bool, true, false}

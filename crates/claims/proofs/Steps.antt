@@ -1,4 +1,5 @@
--- Where no line of CC-Synch takes a number out, every entry's step goes through, so the steps of a schedule are the states of the run. Assumes what the laws' premises say.
+-- Where no line of CC-Synch takes a number out, every entry's step goes through, so the steps of a schedule are the states of the run. Assumes what the laws'
+-- premises say.
 use Prim.Native.Nat.{ℕ, _+_, _≤_, _<_}
 use native.Mathlib.Omega.{arith}
 use mathlib.Core.Path.{_≡_, refl, ap, _∙_}

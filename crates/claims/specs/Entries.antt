@@ -1,4 +1,5 @@
--- The entries of a file's run, by either method: what each entry of its schedule does, from the fresh machine on, by Algorithm 1 or 2 and the rules of documents 01 and 02.
+-- The entries of a file's run, by either method: what each entry of its schedule does, from the fresh machine on, by Algorithm 1 or 2 and the rules of
+-- documents 01 and 02.
 use Prim.Native.Nat.{ℕ, _-_}
 use mathlib.Core.Bool.{Bool, true, cond, not, _&&_}
 use mathlib.Core.List.{List, [], _∷_, _++_, map, reverse}

@@ -1,5 +1,5 @@
--- From lists to functions: what the entry of a thread does to a state by DSM-Synch is what its line does to the view. Assumes full arrays of threads and nodes, at most
--- 16 threads, Control, a thread below n, and that its line meets no null.
+-- From lists to functions: what the entry of a thread does to a state by DSM-Synch is what its line does to the view. Assumes full arrays of threads and nodes,
+-- at most 16 threads, Control, a thread below n, and that its line meets no null.
 use Prim.Native.Nat.{ℕ, _≤_, _<_}
 use native.Mathlib.Omega.{arith}
 use mathlib.Core.Path.{_≡_, refl, sym}

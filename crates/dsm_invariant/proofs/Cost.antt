@@ -39,8 +39,8 @@ another t m = cond (eqb (ownerOf m) t) 0 1
 abbrev pub touches : ℕ → Bool
 touches k = leb 3 k && not (eqb k 8)
 
--- of lines 0 to 12, in any state, 7 makes one remote reference, 9 one unless myPredNode is the thread's own, and the others none unless myNode is another's: so a call
--- that has come to line 12 has made two, or one if its Swap gave a node of its own
+-- of lines 0 to 12, in any state, 7 makes one remote reference, 9 one unless myPredNode is the thread's own, and the others none unless myNode is another's: so
+-- a call that has come to line 12 has made two, or one if its Swap gave a node of its own
 abbrev pub early : ℕ → Thread → ℕ → ℕ
 early t th k = cond (eqb k 7) 1 (cond (eqb k 9) (another t (th .pred)) (cond (touches k) (another t (th .my)) 0))
 

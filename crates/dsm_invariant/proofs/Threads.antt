@@ -1,5 +1,5 @@
--- What the layers above ask of Control, by the numbers of lines: of threads in the queue, of the turn, of what line 16 serves, of what a call's last line finds, of null,
--- and of the node that a line writes. Assumes Control.
+-- What the layers above ask of Control, by the numbers of lines: of threads in the queue, of the turn, of what line 16 serves, of what a call's last line
+-- finds, of null, and of the node that a line writes. Assumes Control.
 use Prim.Native.Nat.{ℕ, suc, _+_, _*_, _≤_, _<_}
 use native.Mathlib.Omega.{arith}
 use mathlib.Core.Path.{_≡_, sym, _∙_, ap, subst}

@@ -1,4 +1,5 @@
--- The invariant after a line that keeps Tail and the node that its thread holds: it asks only for what the thread knows then, and what the others rely on. Assumes Control.
+-- The invariant after a line that keeps Tail and the node that its thread holds: it asks only for what the thread knows then, and what the others rely on.
+-- Assumes Control.
 use Prim.Native.Nat.{ℕ, _≤_, _<_}
 use native.Mathlib.Omega.{arith}
 use mathlib.Core.Path.{_≡_, refl, sym, _∙_, ap}

@@ -1,5 +1,5 @@
--- What both methods keep of requests, answers and the object: lists that grow by one, and the object that is fed the jobs in their order, at the start, when a job more
--- comes in, and when the next is applied. Assumes nothing.
+-- What both methods keep of requests, answers and the object: lists that grow by one, and the object that is fed the jobs in their order, at the start, when a
+-- job more comes in, and when the next is applied. Assumes nothing.
 use Prim.Native.Nat.{ℕ, suc, _+_, _≤_, _<_}
 use native.Mathlib.Nat.{add-zero}
 use native.Mathlib.Numerals.{add-one}

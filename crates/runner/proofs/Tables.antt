@@ -1,4 +1,5 @@
--- What the arrays of a run in place say of its entries so far, and that every entry keeps it. Assumes the invariant of a file's run, and room in Swap order for one Swap more.
+-- What the arrays of a run in place say of its entries so far, and that every entry keeps it. Assumes the invariant of a file's run, and room in Swap order for
+-- one Swap more.
 use Prim.Native.Nat.{ℕ, _+_, _-_, _*_, _%_, _^_, _≤_, _<_}
 use native.Mathlib.Omega.{arith}
 use native.Mathlib.Nat.{mod-eq-of-lt, div-add-mod}

@@ -1,4 +1,5 @@
--- Each line of Algorithm 1 on numbers in range: what it leaves is in range again, but for the causes that `takesOut` names. Assumes what the module's parameters say.
+-- Each line of Algorithm 1 on numbers in range: what it leaves is in range again, but for the causes that `takesOut` names. Assumes what the module's
+-- parameters say.
 use Prim.Native.Nat.{ℕ, _+_, _≤_, _<_}
 use native.Mathlib.Omega.{arith}
 use mathlib.Core.Path.{_≡_, refl, subst}

@@ -1,4 +1,5 @@
--- A single step goes through exactly if its line takes no number out, uses no empty req or ret and leaves the counts in 32 bits. Assumes a state of full arrays, in range, and a thread below n.
+-- A single step goes through exactly if its line takes no number out, uses no empty req or ret and leaves the counts in 32 bits. Assumes a state of full
+-- arrays, in range, and a thread below n.
 use Prim.Native.Nat.{ℕ, _+_, _-_, _≤_, _<_}
 use native.Mathlib.Omega.{arith}
 use mathlib.Core.Path.{_≡_, refl, subst, ap, _∙_}

@@ -1,5 +1,5 @@
--- What lies past n, a thread's count or the items held is not changed by a single step (`past-kept`) and not judged by it (`same-refusal`), nor does what lies within
--- hang on it (`agree-next`). Assumes states of full arrays.
+-- What lies past n, a thread's count or the items held is not changed by a single step (`past-kept`) and not judged by it (`same-refusal`), nor does what lies
+-- within hang on it (`agree-next`). Assumes states of full arrays.
 use Prim.Native.Nat.{ℕ, _+_, _-_, _*_, _/_, _^_, _<_}
 use native.Mathlib.Omega.{arith}
 use native.Mathlib.Nat.{zero-add}

@@ -31,8 +31,8 @@ use Rattle.state.specs.declared.Slot.{Slot}
 use Rattle.state.specs.declared.Counts.{Counts}
 use Rattle.state.specs.declared.State.{State}
 
--- what a read past the end of an array gives: no state in range of CC-Synch meets it, and of DSM-Synch only a line that makes nothing of it, where myNode or the node
--- behind is null; not the start
+-- what a read past the end of an array gives: no state in range of CC-Synch meets it, and of DSM-Synch only a line that makes nothing of it, where myNode or
+-- the node behind is null; not the start
 abbrev pub zeroNodeId : NodeId
 zeroNodeId = record { 0 = 0 }
 
