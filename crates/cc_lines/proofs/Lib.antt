@@ -1,3 +1,4 @@
 pub mod Events
 pub mod Follows
+pub mod Numbers
 pub mod Table

@@ -21,16 +21,15 @@ use Rattle.machine.specs.declared.Announced.the-variants.{Asked}
 use Rattle.machine.specs.declared.Event.the-variants.{Blank, CallBegins, Swaps, Applies, Returns}
 use Rattle.machine.specs.Events.{sameEvent}
 use Rattle.machine.specs.Sizes.{mostLocations}
-use Rattle.cc_lines.specs.Lines.{Line, lineOf}
+use Rattle.cc_lines.specs.Lines.{Line, lineOf, number}
 use Rattle.cc_lines.proofs.Events.{by-row}
 use Rattle.cc_synch.specs.Effect.{takesOut}
 use Rattle.state.specs.declared.State.{State}
 use Rattle.state.specs.Range.{reqInRange}
 use Rattle.state.proofs.RangeFacts.{state-fits}
 use Rattle.step.specs.Entry.{named, line, row, node, event, request, applied, references, entered}
-use Rattle.step.specs.Numbers.{number}
 use Rattle.step.proofs.Outcome.{node-fits, begun-few}
-use Rattle.step.proofs.Numbers.{by-last}
+use Rattle.cc_lines.proofs.Numbers.{by-last}
 use Rattle.step.proofs.Soundness.{Sound}
 use Rattle.invariant.specs.Ledger.{Ledger, noted, upd}
 use Rattle.invariant.specs.View.{viewOf, Does}

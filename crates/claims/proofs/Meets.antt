@@ -12,12 +12,11 @@ use Rattle.machine.specs.declared.Node.{Node}
 use Rattle.machine.specs.declared.Event.the-variants.{Blank, CallBegins, Swaps, TurnBegins, Applies, TurnEnds, Returns, Spins, Other}
 use Rattle.machine.specs.Fields.{isNull}
 use Rattle.machine.specs.Events.{eventNumber, sameEvent}
-use Rattle.cc_lines.specs.Lines.{Line, rowOf, eventIn, L0, L1, L2, L3, L4, L5, L6, L7, L8, L9, L10, L11, L12, L13, L14, L15, L16, L17, L18, L19, L20, L21}
+use Rattle.cc_lines.specs.Lines.{Line, rowOf, eventIn, L0, L1, L2, L3, L4, L5, L6, L7, L8, L9, L10, L11, L12, L13, L14, L15, L16, L17, L18, L19, L20, L21, number}
 use Rattle.cc_lines.proofs.Events.{by-row}
 use Rattle.step.specs.Entry.{oneIf}
-use Rattle.step.specs.Numbers.{number}
 use Rattle.machine.specs.Lines.{standsAt}
-use Rattle.step.proofs.Numbers.{each-line, number-most, by-line}
+use Rattle.cc_lines.proofs.Numbers.{each-line, number-most, by-line}
 use Rattle.invariant.specs.Ledger.{Ledger, noted}
 use Rattle.invariant.specs.View.{View, goal, does, Does}
 use Rattle.invariant.specs.Control.{Control}

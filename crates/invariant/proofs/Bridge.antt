@@ -4,13 +4,12 @@ use native.Mathlib.Omega.{arith}
 use mathlib.Core.Path.{_≡_, refl}
 use lib.Seq.{getD-set-same, getD-set-other}
 use Rattle.machine.specs.declared.ThreadId.{ThreadId}
-use Rattle.cc_lines.specs.Lines.{lineOf}
+use Rattle.cc_lines.specs.Lines.{lineOf, number}
 use Rattle.state.specs.declared.State.{State}
 use Rattle.state.proofs.RangeFacts.{state-fits}
 use Rattle.step.specs.Entry.{zeroThread, zeroNode, named, line, target, request, applied, effect, entered}
-use Rattle.step.specs.Numbers.{number}
 use Rattle.machine.proofs.Lines.{RunsNext}
-use Rattle.step.proofs.Numbers.{number-of}
+use Rattle.cc_lines.proofs.Numbers.{number-of}
 use Rattle.step.proofs.Outcome.{room, runs-line, target-in-range}
 use Rattle.step.proofs.Soundness.{Sound}
 use Rattle.invariant.specs.View.{viewOf, Does}

@@ -18,10 +18,9 @@ use Rattle.machine.specs.declared.Field.{Field}
 use Rattle.machine.specs.declared.Field.the-variants.{Req, Ret, Wait, Completed, Next}
 use Rattle.machine.specs.Accesses.{Access, read, write}
 use Rattle.machine.specs.Sizes.{mostLocations}
-use Rattle.cc_lines.specs.Lines.{Line, L0, L1, L2, L3, L4, L5, L6, L7, L8, L9, L10, L11, L12, L13, L14, L15, L16, L17, L18, L19, L20, L21, accessesBy}
+use Rattle.cc_lines.specs.Lines.{Line, L0, L1, L2, L3, L4, L5, L6, L7, L8, L9, L10, L11, L12, L13, L14, L15, L16, L17, L18, L19, L20, L21, accessesBy, number}
 use Rattle.copies.specs.Remote.{place, ends}
 use Rattle.step.specs.Entry.{oneIf}
-use Rattle.step.specs.Numbers.{number}
 use Rattle.machine.specs.Lines.{standsAt}
 use Rattle.invariant.specs.Stages.{Stage, Out, Wait as Waiting, Combine, o2, o3, o4, w6, w7, w9, w10, w11, c13, c15, c16, c17, c18, c20, out, wait, combine, l19, l21, dummy, stageOf, queued, isThread}
 use Rattle.invariant.specs.Ledger.{Ledger, noted}

@@ -23,12 +23,11 @@ use Rattle.machine.specs.declared.Thread.{Thread}
 use Rattle.machine.specs.declared.Event.the-variants.{Swaps, Applies}
 use Rattle.machine.specs.Fields.{isNull, isEmptyReq, isEmptyRet}
 use Rattle.machine.specs.Events.{sameEvent}
-use Rattle.cc_lines.specs.Lines.{Line, rowOf, L0, L1, L2, L3, L4, L5, L6, L7, L8, L9, L10, L11, L12, L13, L14, L15, L16, L17, L18, L19, L20, L21}
+use Rattle.cc_lines.specs.Lines.{Line, rowOf, L0, L1, L2, L3, L4, L5, L6, L7, L8, L9, L10, L11, L12, L13, L14, L15, L16, L17, L18, L19, L20, L21, number}
 use Rattle.cc_synch.specs.Effect.{usesEmpty, takesOut}
 use Rattle.state.specs.Range.{reqInRange}
-use Rattle.step.specs.Numbers.{number}
 use Rattle.machine.specs.Lines.{standsAt}
-use Rattle.step.proofs.Numbers.{number-most, by-last}
+use Rattle.cc_lines.proofs.Numbers.{number-most, by-last}
 use Rattle.invariant.specs.Stages.{stageOf, queued}
 use Rattle.invariant.specs.Ledger.{Ledger, freshLedger, upd, noted}
 use Rattle.invariant.specs.View.{View, goal, does, Does}

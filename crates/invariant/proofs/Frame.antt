@@ -9,8 +9,7 @@ use Rattle.object.specs.declared.Request.{Request}
 use Rattle.object.specs.declared.Answer.{Answer}
 use Rattle.machine.specs.declared.Node.{Node}
 use Rattle.machine.specs.declared.Thread.{Thread}
-use Rattle.cc_lines.specs.Lines.{Line}
-use Rattle.step.specs.Numbers.{number}
+use Rattle.cc_lines.specs.Lines.{Line, number}
 use Rattle.machine.specs.Lines.{standsAt}
 use Rattle.invariant.specs.Stages.{Stage, stageOf, queued, isThread}
 use Rattle.invariant.specs.Ledger.{Ledger}

@@ -5,10 +5,9 @@ use mathlib.Core.Path.{_≡_, _∙_}
 use mathlib.Core.Bool.{cond}
 use lib.Dec.{eqb}
 use borrow.Author.Tests.{ne-eqb}
-use Rattle.cc_lines.specs.Lines.{Line}
+use Rattle.cc_lines.specs.Lines.{Line, number}
 use Rattle.step.specs.Entry.{oneIf}
-use Rattle.step.specs.Numbers.{number}
-use Rattle.step.proofs.Numbers.{each-line}
+use Rattle.cc_lines.proofs.Numbers.{each-line}
 use Rattle.invariant.specs.Ledger.{Ledger, swapped, noted}
 use Rattle.object.proofs.Choice.{by-equal}
 use Rattle.invariant.proofs.Upd.{upd-same, upd-other}

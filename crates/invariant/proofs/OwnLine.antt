@@ -13,11 +13,10 @@ use Rattle.object.proofs.Choice.{by-equal, either}
 use Rattle.machine.specs.declared.Field.the-variants.{Next}
 use Rattle.machine.specs.Accesses.{read, swap, located}
 use Rattle.machine.specs.Fields.{isNull}
-use Rattle.cc_lines.specs.Lines.{Line, L0, L1, L2, L3, L4, L5, L6, L7, L8, L9, L10, L11, L12, L13, L14, L15, L16, L17, L18, L19, L20, L21}
+use Rattle.cc_lines.specs.Lines.{Line, L0, L1, L2, L3, L4, L5, L6, L7, L8, L9, L10, L11, L12, L13, L14, L15, L16, L17, L18, L19, L20, L21, number}
 use Rattle.machine.specs.Threads.{goes}
 use Rattle.copies.specs.Remote.{hasCopyOf, Referred, referred}
 use Rattle.copies.proofs.References.{access-most}
-use Rattle.step.specs.Numbers.{number}
 use Rattle.machine.specs.Lines.{standsAt}
 use Rattle.step.proofs.Numbers.{at-most-one}
 use Rattle.invariant.specs.Stages.{w11, w12, c13, wait, combine, stageOf}

@@ -11,10 +11,9 @@ use Rattle.object.specs.declared.Answer.{Answer}
 use Rattle.object.proofs.Choice.{by-equal, by-order}
 use Rattle.machine.specs.declared.Thread.{Thread}
 use Rattle.machine.specs.Sizes.{mostLocations}
-use Rattle.cc_lines.specs.Lines.{Line}
-use Rattle.step.specs.Numbers.{number}
+use Rattle.cc_lines.specs.Lines.{Line, number}
 use Rattle.machine.specs.Lines.{standsAt}
-use Rattle.step.proofs.Numbers.{by-line}
+use Rattle.cc_lines.proofs.Numbers.{by-line}
 use Rattle.invariant.specs.Stages.{Stage, stageOf, isThread}
 use Rattle.invariant.specs.Ledger.{Ledger, upd}
 use Rattle.invariant.specs.View.{View, Does}

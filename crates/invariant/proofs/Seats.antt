@@ -6,8 +6,7 @@ use mathlib.Core.Bool.{true, false≢true}
 use lib.Dec.{T}
 use Rattle.object.specs.declared.Request.{Request}
 use Rattle.object.specs.declared.Answer.{Answer}
-use Rattle.cc_lines.specs.Lines.{Line}
-use Rattle.step.specs.Numbers.{number}
+use Rattle.cc_lines.specs.Lines.{Line, number}
 use Rattle.machine.specs.Lines.{standsAt}
 use Rattle.invariant.specs.Stages.{stageOf, queued}
 use Rattle.invariant.specs.Ledger.{Ledger}

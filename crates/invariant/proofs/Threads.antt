@@ -9,10 +9,9 @@ use lib.Seq.{getD-drop}
 use Rattle.object.specs.declared.Request.{Request}
 use Rattle.object.specs.declared.Answer.{Answer}
 use Rattle.object.specs.Each.{every}
-use Rattle.cc_lines.specs.Lines.{Line}
+use Rattle.cc_lines.specs.Lines.{Line, number}
 use Rattle.state.proofs.Kept.{first-at}
-use Rattle.step.specs.Numbers.{number}
-use Rattle.step.proofs.Numbers.{by-line, by-last}
+use Rattle.cc_lines.proofs.Numbers.{by-line, by-last}
 use Rattle.invariant.specs.Stages.{Stage, dummy, stages, stageOf, queued}
 use Rattle.invariant.specs.Ledger.{Ledger}
 use Rattle.invariant.specs.View.{View, goal, Does}

@@ -10,11 +10,10 @@ use Rattle.machine.specs.declared.Node.{Node}
 use Rattle.machine.specs.declared.Thread.{Thread}
 use Rattle.machine.specs.declared.Effect.{Effect}
 use Rattle.machine.specs.Accesses.{pointed}
-use Rattle.cc_lines.specs.Lines.{Line, rowOf}
+use Rattle.cc_lines.specs.Lines.{Line, rowOf, number}
 use Rattle.cc_synch.specs.Effect.{executed}
 use Rattle.state.specs.declared.State.{State}
 use Rattle.step.specs.Entry.{zeroThread, zeroNode}
-use Rattle.step.specs.Numbers.{number}
 use Rattle.machine.specs.Lines.{standsAt}
 
 -- threads and nodes by number, and Tail

@@ -19,7 +19,7 @@ use Rattle.machine.specs.declared.Method.the-variants.{CcSynch}
 use Rattle.machine.specs.declared.ThreadId.{ThreadId}
 use Rattle.machine.specs.Accesses.{read, located, accessesOf}
 use Rattle.machine.specs.Events.{sameEvent}
-use Rattle.cc_lines.specs.Lines.{Line, L0, L9, printed, lineOf, rowOf, eventIn}
+use Rattle.cc_lines.specs.Lines.{Line, L0, L9, printed, lineOf, rowOf, eventIn, number}
 use Rattle.cc_synch.specs.Effect.{executed}
 use Rattle.copies.specs.Copies.{hasCopy}
 use Rattle.copies.specs.Remote.{Referred, hasCopyOf, referred}
@@ -29,9 +29,8 @@ use Rattle.state.specs.declared.State.{State}
 use Rattle.state.specs.Range.{countsInRange}
 use Rattle.state.proofs.RangeFacts.{CountsFit, counts-iff}
 use Rattle.step.specs.Entry.{zeroThread, zeroNode, named, line, row, target, node, event, request, applied, effect, references, countsAfter, entered}
-use Rattle.step.specs.Numbers.{number}
 use Rattle.machine.specs.Lines.{standsAt}
-use Rattle.step.proofs.Numbers.{line-at, each-line, by-line}
+use Rattle.cc_lines.proofs.Numbers.{line-at, each-line, by-line}
 use Rattle.step.proofs.Outcome.{runs-line}
 use Rattle.step.proofs.Soundness.{Sound}
 use Rattle.invariant.proofs.Bridge.{number-line}

@@ -34,7 +34,7 @@ use Rattle.state.specs.Range.{inRange, countsInRange}
 use Rattle.state.specs.Shape.{Shaped}
 use Rattle.state.proofs.RangeFacts.{state-fits}
 use Rattle.step.specs.Entry.{servedBy, appliedAt, plus, wrapped, named, line, event, target, node, effect, applied, references, entered}
-use Rattle.step.proofs.Numbers.{number-most}
+use Rattle.cc_lines.proofs.Numbers.{number-most}
 use Rattle.step.proofs.Outcome.{target-in-range}
 use Rattle.step.proofs.Entering.{place-few, Called, made, is-row, at-target, is-event, is-applied, sums, line-done, entered-by, fits-wrapped}
 use Rattle.invariant.proofs.Bridge.{number-line}

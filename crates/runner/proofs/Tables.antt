@@ -30,7 +30,7 @@ use Rattle.state.specs.declared.Counts.{Counts}
 use Rattle.state.specs.declared.State.{State}
 use Rattle.state.proofs.RangeFacts.{state-fits}
 use Rattle.step.specs.Entry.{line, event, target, node, applied, effect, accesses, references, entered}
-use Rattle.step.proofs.Numbers.{by-line}
+use Rattle.cc_lines.proofs.Numbers.{by-line}
 use Rattle.step.proofs.Outcome.{begun-few, target-in-range}
 use Rattle.invariant.specs.View.{viewOf}
 use Rattle.invariant.proofs.Bridge.{does-of}
@@ -316,7 +316,7 @@ module _ (f : Fields) (fits : InRange f) (s : State) (past : List Entry) (t : Th
     nodes-next m b =
         by-told (λ (l : List ℕ). getD l m 0 ≡ placeOf (callAssigned (nodeId m) (e ∷ past))) Swaps _ given
         (λ q.
-        let assigned : e .node .0 ≡ s .tail .0 = tells-of s t .given q in
+        let assigned : e .node .0 ≡ s .tail .0 = tells-of s t .assigned q in
         set-all (λ m k. k ≡ placeOf (callAssigned (nodeId m) (e ∷ past))) given (s .tail .0) _ 0 (omega (arith, tail-below, tables .nodes-long))
         (mod-eq-of-lt (omega (arith, place-below)) ∙ sym call-place
         ∙ ap placeOf (sym (given-by (s .tail .0) true (ap₂ _&&_ (is-so e Swaps q) (eq-eqb (e .node .0) (s .tail .0) assigned)))))

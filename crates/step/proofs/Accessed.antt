@@ -7,7 +7,7 @@ use Rattle.machine.specs.declared.ThreadId.{ThreadId}
 use Rattle.machine.specs.declared.Thread.{Thread}
 use Rattle.machine.specs.declared.Node.{Node}
 use Rattle.machine.specs.Accesses.{Access}
-use Rattle.cc_lines.specs.Lines.{Line, printed, lineOf, accessesBy}
+use Rattle.cc_lines.specs.Lines.{Line, printed, lineOf, accessesBy, number}
 use Rattle.cc_lines.specs.Said.{sharedAccesses}
 use Rattle.machine.specs.Lines.{beside}
 use Rattle.cc_lines.proofs.Table.{as-tabled}
@@ -18,8 +18,7 @@ use Rattle.dsm_synch.proofs.Table as dsmTable
 use Rattle.state.specs.declared.State.{State}
 use Rattle.step.specs.Entry.{named, line, accesses}
 use Rattle.step.specs.DsmEntry as dsm
-use Rattle.step.specs.Numbers.{number}
-use Rattle.step.proofs.Numbers.{number-of, each-line}
+use Rattle.cc_lines.proofs.Numbers.{number-of, each-line}
 
 -- what stands beside a line's number; beside that of a blank nothing
 module _ (th : Thread) where

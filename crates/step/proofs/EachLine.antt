@@ -21,15 +21,14 @@ use Rattle.machine.specs.declared.Pointer.{Pointer}
 use Rattle.machine.specs.declared.Pointer.the-variants.{Own, Cur, Tmp}
 use Rattle.machine.specs.Fields.{isNull}
 use Rattle.machine.specs.Accesses.{pointed}
-use Rattle.cc_lines.specs.Lines.{Line, printed, lineOf, rowOf, L0, L1, L2, L3, L4, L5, L6, L7, L8, L9, L10, L11, L12, L13, L14, L15, L16, L17, L18, L19, L20, L21}
+use Rattle.cc_lines.specs.Lines.{Line, printed, lineOf, rowOf, L0, L1, L2, L3, L4, L5, L6, L7, L8, L9, L10, L11, L12, L13, L14, L15, L16, L17, L18, L19, L20, L21, number}
 use Rattle.machine.specs.Threads.{goes, withCur, withTmp, withServed}
 use Rattle.cc_synch.specs.Effect.{keeps, writes, usesEmpty, takesOut, executed}
 use Rattle.state.specs.Range.{threadInRange}
 use Rattle.state.proofs.Kept.{first-at}
 use Rattle.state.proofs.RangeFacts.{there, nowhere, ThreadFits, NodeFits, not-null, leb-iff, thread-iff}
-use Rattle.step.specs.Numbers.{number}
 use Rattle.machine.specs.Lines.{standsAt}
-use Rattle.step.proofs.Numbers.{number-of}
+use Rattle.cc_lines.proofs.Numbers.{number-of}
 
 -- a test that holds exactly if another fails
 opposite : (a b : Bool) → (b ≡ false → a ≡ true) → (a ≡ true → b ≡ false) → a ≡ not b
