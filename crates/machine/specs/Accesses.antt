@@ -13,10 +13,13 @@ use Rattle.machine.specs.declared.SharedAccess.the-variants.{NoAccess, R
 use Rattle.machine.specs.declared.Row.{Row}
 
 -- the node that a pointer of a thread of CC-Synch gives: the thread's own node, curNode or tmpNode
+abbrev pub pointedOf : Pointer → NodeId → NodeId → NodeId → NodeId
+pointedOf Own own cur tmp = own
+pointedOf Cur own cur tmp = cur
+pointedOf Tmp own cur tmp = tmp
+
 abbrev pub pointed : Pointer → Thread → NodeId
-pointed Own th = th .own
-pointed Cur th = th .cur
-pointed Tmp th = th .tmp
+pointed pointer th = pointedOf pointer (th .own) (th .cur) (th .tmp)
 
 -- an access reads or writes one field of one node, or is a Swap or a CAS on Tail
 pub data Access : Type 0 where

@@ -1,7 +1,7 @@
 // Threads, nodes and Tail, the accesses of a line to them, and what an entry is. What a printed line does is not looked at here.
 ghost use mathlib.Core.Path.{_≡_};
 ghost use Rattle.machine.specs.Fields.{isNull, isEmptyReq, isEmptyRet};
-ghost use Rattle.machine.specs.Accesses.{pointed};
+ghost use Rattle.machine.specs.Accesses.{pointedOf};
 ghost use Rattle.machine.specs.Events.{eventNumber, sameEvent};
 ghost use Rattle.machine.specs.Lines.{lineRun};
 use object::Answer;
@@ -155,14 +155,14 @@ pub fn line_run(thread: Thread) -> u8
     thread.line
 }
 
-// The node that a line of CC-Synch points to.
-pub fn pointed(pointer: Pointer, thread: Thread) -> NodeId
-    ensures { λ r. ⌜ r ≡ pointed pointer thread ⌝ }
+// The node that a line of CC-Synch points to, of the three that its thread's variables give.
+pub fn pointed(pointer: Pointer, own: NodeId, cur: NodeId, tmp: NodeId) -> NodeId
+    ensures { λ r. ⌜ r ≡ pointedOf pointer own cur tmp ⌝ }
 {
     match pointer {
-        Pointer::Own => thread.own,
-        Pointer::Cur => thread.cur,
-        Pointer::Tmp => thread.tmp,
+        Pointer::Own => own,
+        Pointer::Cur => cur,
+        Pointer::Tmp => tmp,
     }
 }
 

@@ -7,7 +7,6 @@ use mathlib.Core.Bool.{Bool, true, false, cond, _&&_, and-eq-true-iff}
 use mathlib.Core.List.{List, [], _∷_}
 use lib.ListN.{length, getD, set}
 use lib.Seq.{set-getD}
-use Rattle.object.specs.Each.{Each}
 use Rattle.object.specs.declared.Kind.{Kind}
 use Rattle.machine.specs.declared.Field.{Field}
 use Rattle.machine.specs.declared.Field.the-variants.{Wait}
@@ -17,9 +16,9 @@ use Rattle.machine.specs.declared.NodeId.{NodeId}
 use Rattle.machine.specs.declared.Row.{Row}
 use Rattle.machine.specs.declared.Method.the-variants.{CcSynch}
 use Rattle.machine.specs.declared.ThreadId.{ThreadId}
-use Rattle.machine.specs.Accesses.{read, located, accessesOf}
+use Rattle.machine.specs.Accesses.{read, located, pointed, accessesOf}
 use Rattle.machine.specs.Events.{sameEvent}
-use Rattle.cc_lines.specs.Lines.{Line, L0, L9, printed, lineOf, rowOf, eventIn, number}
+use Rattle.cc_lines.specs.Lines.{Line, L0, L9, lineOf, rowOf, eventIn, number}
 use Rattle.cc_synch.specs.Effect.{executed}
 use Rattle.copies.specs.Copies.{hasCopy}
 use Rattle.copies.specs.Remote.{Referred, hasCopyOf, referred}
@@ -29,11 +28,7 @@ use Rattle.state.specs.declared.State.{State}
 use Rattle.state.specs.Range.{countsInRange}
 use Rattle.state.proofs.RangeFacts.{CountsFit, counts-iff}
 use Rattle.step.specs.Entry.{zeroThread, zeroNode, named, line, row, target, node, event, request, applied, effect, references, countsAfter, entered}
-use Rattle.machine.specs.Lines.{standsAt}
-use Rattle.cc_lines.proofs.Numbers.{line-at, each-line, by-line}
-use Rattle.step.proofs.Outcome.{runs-line}
-use Rattle.step.proofs.Soundness.{Sound}
-use Rattle.invariant.proofs.Bridge.{number-line}
+use Rattle.cc_lines.proofs.Numbers.{each-line, by-line}
 use Rattle.history.specs.Entries.{threadId}
 use Rattle.history.proofs.Sums.{cost-fits}
 use Rattle.claims.proofs.Counted.{next-fits}
@@ -57,12 +52,11 @@ pub record Quiet (s : State) (t : ThreadId) (counts : Counts) : Type 0 where
   pub references-same : references s t ≡ record { remote = 0; copies = s .copies }
   pub counted : countsAfter s t ≡ counts
 
--- the line whose row alone has an event
-the-line : (told : Event) (only : Line) → Each (λ (l : Line). cond (sameEvent (rowOf l .event) told) (number l) (number only) ≡ number only) (L0 ∷ printed)
-    → (l : Line) → sameEvent (rowOf l .event) told ≡ true → l ≡ only
-the-line told only alone l is =
-    let its : number l ≡ number only = rw is at (each-line (λ (l : Line). cond (sameEvent (rowOf l .event) told) (number l) (number only) ≡ number only) alone l) in
-    by-line (λ (l : Line). l ≡ only) l its (line-at only)
+-- the row of no printed line is a blank's
+is-blank : (l : Line) → sameEvent (rowOf l .event) Blank ≡ true → l ≡ L0
+is-blank l blank =
+    let its : number l ≡ 0 = rw blank at (each-line (λ (l : Line). cond (sameEvent (rowOf l .event) Blank) (number l) 0 ≡ 0) (omega arith) l) in
+    by-line (λ (l : Line). l ≡ L0) l its refl
 
 -- a blank adds one to the blanks
 abbrev pub blankMore : Counts → Counts
@@ -77,7 +71,7 @@ blank-quiet s t blank = record {
 }
   where
     none : lineOf (line s t) ≡ L0
-    none = the-line Blank L0 (omega arith) (lineOf (line s t)) blank
+    none = is-blank (lineOf (line s t)) blank
 
     no-reference : references s t ≡ record { remote = 0; copies = s .copies }
     no-reference = ap (λ (l : Line). referred (s .n) (t .0) (s .copies) (accessesOf (rowOf l) (target s t))) none
@@ -87,45 +81,49 @@ held-read : (n t : ℕ) (copies : List ℕ) (m : NodeId) (f : Field) → hasCopy
     → referred n t copies (read m f ∷ []) ≡ record { remote = 0; copies = copies }
 held-read n t copies m f held = rw (held, add-zero, set-getD)
 
--- an entry of the row that spins, where it finds wait true and its thread has a copy
+-- an entry of a thread that stands at line 9, where it finds wait true and its thread has a copy
 pub record Spinning (s : State) (t : ThreadId) : Type 0 where
-  pub spins : sameEvent (row s t .event) Spins ≡ true
+  pub stands : named s t .line ≡ number L9
   pub waits : node s t .wait ≡ true
   pub held : hasCopyOf (s .copies) (t .0) (located (read (target s t) Wait)) ≡ true
 
--- as the tests for it say, of the row's node and its place among the copies
-pub spinning : (s : State) (t : ThreadId) {m : NodeId} {at : ℕ} (has : Bool) → sameEvent (row s t .event) Spins ≡ true → m ≡ target s t → at ≡ copyPlace (located (read m Wait))
-    → has ≡ hasCopy (getD (s .copies) at 0) (t .0) → (getD (s .nodes) (m .0) zeroNode .wait && has) ≡ true → Spinning s t
-spinning s t {m} has spins is placed copy both =
-    let found = and-eq-true-iff (getD (s .nodes) (m .0) zeroNode .wait) has .0 both in
-    record { spins = spins; waits = rw is at (found .0); held = rw (copy, placed, is) at (found .1) }
+-- it runs that line, and points to curNode
+nine : (s : State) (t : ThreadId) → named s t .line ≡ number L9 → lineOf (line s t) ≡ L9
+nine s t stands = rw stands
+
+pub at-cur : (s : State) (t : ThreadId) → named s t .line ≡ number L9 → named s t .cur ≡ target s t
+at-cur s t stands = ap (λ (l : Line). pointed (rowOf l .node) (named s t)) (sym (nine s t stands))
+
+-- as the tests for it say, of curNode and its place among the copies
+pub spinning : (s : State) (t : ThreadId) {at : ℕ} (has : Bool) → named s t .line ≡ number L9 → at ≡ copyPlace (located (read (named s t .cur) Wait))
+    → has ≡ hasCopy (getD (s .copies) at 0) (t .0) → (getD (s .nodes) (named s t .cur .0) zeroNode .wait && has) ≡ true → Spinning s t
+spinning s t has stands placed copy both =
+    let is = at-cur s t stands in
+    let found = and-eq-true-iff (getD (s .nodes) (named s t .cur .0) zeroNode .wait) has .0 both in
+    record { stands = stands; waits = rw is at (found .0); held = rw (copy, placed, is) at (found .1) }
 
 -- a spin adds one to the spins
 abbrev pub spinMore : Counts → Counts
 spinMore c = record { records = c .records; turns = c .turns; blanks = c .blanks; spins = c .spins + 1; remote = c .remote }
 
-module _ (s : State) (t : ThreadId) (sound : Sound s) (small : t .0 < s .n) (spinning : Spinning s t) where
-  nine : lineOf (line s t) ≡ L9
-  nine = the-line Spins L9 (omega arith) (lineOf (line s t)) (spinning .spins)
-
-  -- the thread stands there, and stays
-  stands : named s t .line ≡ number L9
-  stands = runs-line s t (sound .shape) (sound .range) small .stands ∙ ap standsAt (sym (number-line s t sound small) ∙ ap number nine)
+module _ (s : State) (t : ThreadId) (spinning : Spinning s t) where
+  at-nine : lineOf (line s t) ≡ L9
+  at-nine = nine s t (spinning .stands)
 
   held : references s t ≡ record { remote = 0; copies = s .copies }
   held =
-      ap (λ (l : Line). referred (s .n) (t .0) (s .copies) (accessesOf (rowOf l) (target s t))) nine
+      ap (λ (l : Line). referred (s .n) (t .0) (s .copies) (accessesOf (rowOf l) (target s t))) at-nine
       ∙ held-read (s .n) (t .0) (s .copies) (target s t) Wait (spinning .held)
 
   spins-now : event s t ≡ Spins
-  spins-now = ap (λ (l : Line). eventIn (rowOf l .event) (node s t)) nine ∙ rw (spinning .waits)
+  spins-now = ap (λ (l : Line). eventIn (rowOf l .event) (node s t)) at-nine ∙ rw (spinning .waits)
 
   pub spin-quiet : Quiet s t (spinMore (s .counts))
   spin-quiet = record {
     unnoted = rw spins-now (record { no-swap = refl; no-turn = refl; no-serving = refl; no-begin = refl; no-return = refl });
     effect-same =
-        ap (λ (l : Line). executed (named s t) (node s t) (s .tail) (s .h) (request s t) (applied s t .answer) l) nine
-        ∙ rw (spinning .waits, ← stands);
+        ap (λ (l : Line). executed (named s t) (node s t) (s .tail) (s .h) (request s t) (applied s t .answer) l) at-nine
+        ∙ rw (spinning .waits, ← spinning .stands);
     references-same = held;
     counted = rw (held, spins-now) (simp add-zero);
   }

@@ -37,27 +37,29 @@ fn from_start(schedule: &[u8], start: State) -> Played
     while i < schedule.len() {
         let thread = ThreadId(schedule[i]);
         let t = thread.0 as usize;
+        // Two kinds of entry change nothing but a count: a spin on a valid copy, looked for before all else, and a blank.
+        let seen = state.threads[t];
+        if seen.line == cc_lines::SPIN_LINE {
+            let at = copies::place(seen.cur);
+            let spun = seen.cur.0 as usize;
+            if state.nodes[spun].wait & copies::has_copy(state.copies[at], thread) {
+                state.counts.spins += 1;
+                i += 1;
+                continue;
+            }
+        }
         let named = state.threads[t];
         let line = machine::line_run(named);
         let row = rows[line as usize];
         let row_event = row.event;
-        // Two kinds of entry change nothing but a count: a blank, and a spin on a valid copy.
         if machine::same_event(row_event, Event::Blank) {
             state.counts.blanks += 1;
             i += 1;
             continue;
         }
         let pointer = row.node;
-        let target = machine::pointed(pointer, named);
+        let target = machine::pointed(pointer, named.own, named.cur, named.tmp);
         let m = target.0 as usize;
-        if machine::same_event(row_event, Event::Spins) {
-            let at = copies::place(target);
-            if state.nodes[m].wait & copies::has_copy(state.copies[at], thread) {
-                state.counts.spins += 1;
-                i += 1;
-                continue;
-            }
-        }
         let node = state.nodes[m];
         let req = node.req;
         let event = cc_lines::event_in(row_event, node);

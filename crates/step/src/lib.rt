@@ -135,7 +135,7 @@ fn enter(state: State, thread: ThreadId) -> Stepped
     let line = machine::line_run(named);
     let row = cc_lines::row_of(line);
     let pointer = row.node;
-    let target = machine::pointed(pointer, named);
+    let target = machine::pointed(pointer, named.own, named.cur, named.tmp);
     let m = target.0 as usize;
     let node = state.nodes[m];
     let row_event = row.event;

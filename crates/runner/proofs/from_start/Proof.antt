@@ -2,7 +2,7 @@
 use Prim.Native.Nat.{ℕ, _+_, _-_, _^_, _<_}
 use native.Mathlib.Omega.{arith}
 use mathlib.Core.Path.{_≡_, refl, sym, ap, ap₂, _∙_}
-use mathlib.Core.Bool.{Bool, true}
+use mathlib.Core.Bool.{true}
 use mathlib.Core.Logic.{⊎-elim}
 use mathlib.Core.List.{List, _∷_}
 use lib.ListN.{length, getD, replicate, List·getD-map}
@@ -14,12 +14,11 @@ use Rattle.machine.specs.declared.Announced.{Announced}
 use Rattle.machine.specs.declared.Effect.{Effect}
 use Rattle.machine.specs.declared.Row.{Row}
 use Rattle.machine.specs.declared.ThreadId.{ThreadId}
-use Rattle.machine.specs.declared.Event.{Event}
-use Rattle.machine.specs.declared.Event.the-variants.{Blank, Spins}
+use Rattle.machine.specs.declared.Event.the-variants.{Blank}
 use Rattle.machine.specs.Accesses.{accessesOf}
 use Rattle.machine.specs.Events.{sameEvent}
 use Rattle.machine.specs.Sizes.{mostCalls, mostNodes}
-use Rattle.cc_lines.specs.Lines.{L0, printed, lineOf, rowOf}
+use Rattle.cc_lines.specs.Lines.{L0, L9, printed, lineOf, rowOf, number}
 use Rattle.cc_synch.specs.Effect.{effectOf}
 use Rattle.copies.specs.Remote.{Referred, referred}
 use Rattle.state.specs.declared.State.{State}
@@ -27,8 +26,8 @@ use Rattle.step.specs.Entry.{zeroNode, zeroSlot, named, target, servedBy, appli
 use Rattle.step.specs.Entry.{row as row-now}
 use Rattle.step.proofs.Entering.{is-target, Called}
 use Rattle.history.specs.Entries.{threadId}
-use Rattle.runner.proofs.Running.{Looping, below, number-few, thread-few, line-few, node-few, slot-few, call-below, their-below, is-call, is-served, Serves, serves-one, serves-none, looping-start, looping-next, looping-ends}
-use Rattle.runner.proofs.Quiet.{Quiet, blank-quiet, Spinning, spinning, spinMore, spin-quiet, counts-fit, looping-quiet}
+use Rattle.runner.proofs.Running.{Looping, number-few, thread-few, line-few, node-few, slot-few, call-below, their-below, is-call, is-served, Serves, serves-one, serves-none, looping-start, looping-next, looping-ends}
+use Rattle.runner.proofs.Quiet.{Quiet, blank-quiet, at-cur, spinning, spinMore, spin-quiet, counts-fit, looping-quiet}
 use Rattle.runner.proofs.from_start.Statement.{statement}
 use Rattle.runner.proofs.from_start.Tie as tie
 
@@ -41,8 +40,20 @@ abbrev μ-loop : tie.MeasureT-loop
     length schedule - i
 
 -- the entry that the loop is at, from each of its calls
+abbrev looked : tie.After-seen Inv-loop μ-loop → tie.In-loop Inv-loop μ-loop
+looked c = c .before .before .before
+
+abbrev stood : tie.Then1 Inv-loop μ-loop → tie.In-loop Inv-loop μ-loop
+stood c = looked (c .before .before)
+
+abbrev waited : tie.Then2 Inv-loop μ-loop → tie.After-place Inv-loop μ-loop
+waited c = c .before .before .before .before
+
+abbrev entry-spun : tie.Then2 Inv-loop μ-loop → tie.In-loop Inv-loop μ-loop
+entry-spun c = stood (waited c .before)
+
 abbrev entry : tie.After-line-run Inv-loop μ-loop → tie.In-loop Inv-loop μ-loop
-entry c = c .before .before .before .before
+entry c = looked (c .before .before .before .before)
 
 abbrev rowed : tie.After-same-event Inv-loop μ-loop → tie.After-line-run Inv-loop μ-loop
 rowed c = c .before .before
@@ -50,17 +61,8 @@ rowed c = c .before .before
 abbrev lined : tie.After-pointed Inv-loop μ-loop → tie.After-line-run Inv-loop μ-loop
 lined c = rowed (c .before .before)
 
-abbrev tested : tie.After-same-event2 Inv-loop μ-loop → tie.After-pointed Inv-loop μ-loop
-tested c = c .before .before
-
-abbrev waited : tie.After-place Inv-loop μ-loop → tie.After-pointed Inv-loop μ-loop
-waited c = tested (c .before .before)
-
-abbrev entry-spun : tie.Then3 Inv-loop μ-loop → tie.In-loop Inv-loop μ-loop
-entry-spun c = entry (lined (waited (c .before .before .before)))
-
 abbrev told : tie.After-event-in Inv-loop μ-loop → tie.After-pointed Inv-loop μ-loop
-told c = tested (c .before .before .before)
+told c = c .before .before .before
 
 abbrev eventful : tie.After-call-place Inv-loop μ-loop → tie.After-event-in Inv-loop μ-loop
 eventful c = c .before .before
@@ -134,28 +136,23 @@ node-below c =
 i-fits : (at : tie.In-loop Inv-loop μ-loop) → at .before .loop .i + 1 < 2 ^ 64
 i-fits at = omega (arith, at .loop-test .taken, at .before .before .before .before .before .good)
 
--- what the tests for a blank and for a spin said
-row-says : (c : tie.After-line-run Inv-loop μ-loop) (event : Event) {test : Bool} → test ≡ sameEvent (row c .event) event → test ≡ true
-    → sameEvent (row-now (state (entry c)) (thread (entry c)) .event) event ≡ true
-row-says c event asked taken = ap (λ (r : Row). sameEvent (r .event) event) (sym (is-row c)) ∙ sym asked ∙ taken
+-- what the tests for a spin and for a blank said
+stands : (c : tie.Then1 Inv-loop μ-loop) → let at = stood c in named (state at) (thread at) .line ≡ number L9
+stands c = c .if1 .taken
 
-blank : (c : tie.Then1 Inv-loop μ-loop) → let at = entry (rowed (c .before)) in sameEvent (row-now (state at) (thread at) .event) Blank ≡ true
-blank c = row-says (rowed (c .before)) Blank (c .before .same-event .ensures) (c .if1 .taken)
-
-spins : (c : tie.Then3 Inv-loop μ-loop) → Spinning (state (entry-spun c)) (thread (entry-spun c))
-spins c =
-    let test = c .before in
-    let placing = test .before .before in
-    let branch = placing .before in
-    let at = waited placing in
-    spinning _ _ (test .has-copy .result) (row-says (lined at) Spins (branch .before .same-event2 .ensures) (branch .if2 .taken)) (is-node at) (placing .place .ensures)
-    (test .has-copy .ensures) (c .if3 .taken)
-
-spun : (c : tie.Then3 Inv-loop μ-loop) → let s = state (entry-spun c) in Quiet s (thread (entry-spun c)) (spinMore (s .counts))
-spun c =
-    let at = entry-spun c in
+cur-below : (c : tie.Then1 Inv-loop μ-loop) → let at = stood c in named (state at) (thread at) .cur .0 < mostNodes
+cur-below c =
+    let at = stood c in
     let now = at .before .loop .inv in
-    spin-quiet _ _ (now .running .layers .sound) (below _ _ (now .fits) (now .running) (at .loop-test .taken)) (spins c)
+    node-few _ _ (now .fits) (now .running) (at .loop-test .taken) (at-cur (state at) (thread at) (stands c))
+
+spun : (c : tie.Then2 Inv-loop μ-loop) → let s = state (entry-spun c) in Quiet s (thread (entry-spun c)) (spinMore (s .counts))
+spun c =
+    let copy = c .before .has-copy in
+    spin-quiet _ _ (spinning _ _ (copy .result) (stands (waited c .before)) (waited c .place .ensures) (copy .ensures) (c .if2 .taken))
+
+blank : (c : tie.Then3 Inv-loop μ-loop) → let at = entry (rowed (c .before)) in sameEvent (row-now (state at) (thread at) .event) Blank ≡ true
+blank c = ap (λ (r : Row). sameEvent (r .event) Blank) (sym (is-row (rowed (c .before)))) ∙ sym (c .before .same-event .ensures) ∙ c .if3 .taken
 
 place-below : (c : tie.After-call-place Inv-loop μ-loop) → c .call-place .result < mostCalls
 place-below c =
@@ -170,7 +167,7 @@ serves c =
     let s = state (entry (lined at)) in
     let now = entry (lined at) .before .loop .inv in
     let event = eventful (placed c) .event-in .result in
-    let applies = placed c .before .same-event3 in
+    let applies = placed c .before .same-event2 in
     let same = ap₂ (λ (kind : Kind) (capacity : ℕ). servedBy kind capacity (s .object) (req at)) (now .object) (now .room) in
     ⊎-elim (λ w. serves-one s (c .if4 .state) (c .if4 .answer) event (req at) (sym (applies .ensures) ∙ w .0 .taken) (w .2 .ensures ∙ same) (w .5) (w .4))
     (λ w. serves-none s (c .if4 .state) (c .if4 .answer) event (req at) (sym (applies .ensures) ∙ w .0 .left) (w .2) (w .1))
@@ -217,7 +214,7 @@ served-small c =
     let placing = c .before in
     let at = entry-of (counted placing) in
     let now = at .before .loop .inv in
-    let is = is-served _ _ (now .fits) (now .running) (at .loop-test .taken) (called (counted placing)) (placing .call-place2 .ensures) (placed (joined (counted placing)) .before .same-event3 .ensures) (c .served-place .ensures) in
+    let is = is-served _ _ (now .fits) (now .running) (at .loop-test .taken) (called (counted placing)) (placing .call-place2 .ensures) (placed (joined (counted placing)) .before .same-event2 .ensures) (c .served-place .ensures) in
     omega (arith, is, their-below _ _ (now .fits) (now .running) (at .loop-test .taken))
 
 -- the entry's number
@@ -236,17 +233,56 @@ unkept-requires c κs = search needs
 loop-holds : tie.Need-loop-holds Inv-loop μ-loop
 loop-holds c = looping-start (c .before .all-rows .ensures) (ap (replicate mostCalls) (c .unkept .ensures)) (c .before .before .before .pre)
 
-shared-slice-read-t56 : tie.Need-shared-slice-read-t56 Inv-loop μ-loop
-shared-slice-read-t56 c = c .before .loop-test .taken
+shared-slice-read-t58 : tie.Need-shared-slice-read-t58 Inv-loop μ-loop
+shared-slice-read-t58 c = c .before .loop-test .taken
 
 cast-t : tie.Need-cast-t Inv-loop μ-loop
 cast-t c = omega (arith, thread-below (c .before .before))
 
+mul-seen : tie.Need-mul-seen Inv-loop μ-loop
+mul-seen c = omega (arith, thread-below (c .before .before))
+
+element-copy-out-seen : tie.Need-element-copy-out-seen Inv-loop μ-loop
+element-copy-out-seen c = thread-below (c .before .before)
+
+place-requires : tie.Need-place-requires Inv-loop μ-loop
+place-requires c κs = search needs
+
+cast-spun : tie.Need-cast-spun Inv-loop μ-loop
+cast-spun c = omega (arith, cur-below (c .before .before))
+
+mul-if2 : tie.Need-mul-if2 Inv-loop μ-loop
+mul-if2 c = omega (arith, cur-below (c .before .before))
+
+element-copy-out-if2 : tie.Need-element-copy-out-if2 Inv-loop μ-loop
+element-copy-out-if2 c = cur-below (c .before .before)
+
+mul-has-copy : tie.Need-mul-has-copy Inv-loop μ-loop
+mul-has-copy c = omega (arith, c .before .place .ensures, cur-below (c .before .before))
+
+element-copy-out-has-copy : tie.Need-element-copy-out-has-copy Inv-loop μ-loop
+element-copy-out-has-copy c = omega (arith, c .before .place .ensures, cur-below (c .before .before))
+
+has-copy-requires : tie.Need-has-copy-requires Inv-loop μ-loop
+has-copy-requires c κs = search needs
+
+add-state : tie.Need-add-state Inv-loop μ-loop
+add-state c = let at = entry-spun c in omega (arith, counts-fit (at .before .loop .inv) (at .loop-test .taken) (spun c))
+
+add-i : tie.Need-add-i Inv-loop μ-loop
+add-i c = omega (arith, i-fits (entry-spun (c .before)))
+
+loop-less : tie.Need-loop-less Inv-loop μ-loop
+loop-less c = omega (arith, entry-spun (c .before) .loop-test .taken)
+
+loop-again : tie.Need-loop-again Inv-loop μ-loop
+loop-again c = let at = entry-spun (c .before) in looping-quiet (at .before .loop .inv) (at .loop-test .taken) (spun (c .before))
+
 mul-named : tie.Need-mul-named Inv-loop μ-loop
-mul-named c = omega (arith, thread-below (c .before .before))
+mul-named c = omega (arith, thread-below (looked (c .before .before)))
 
 element-copy-out-named : tie.Need-element-copy-out-named Inv-loop μ-loop
-element-copy-out-named c = thread-below (c .before .before)
+element-copy-out-named c = thread-below (looked (c .before .before))
 
 line-run-requires : tie.Need-line-run-requires Inv-loop μ-loop
 line-run-requires c κs = search needs
@@ -263,19 +299,19 @@ array-copy-out-row c = line-below c
 same-event-requires : tie.Need-same-event-requires Inv-loop μ-loop
 same-event-requires c κs = search needs
 
-add-state : tie.Need-add-state Inv-loop μ-loop
-add-state c =
+add-state-2 : tie.Need-add-state-2 Inv-loop μ-loop
+add-state-2 c =
     let at = entry (rowed (c .before)) in
     omega (arith, counts-fit (at .before .loop .inv) (at .loop-test .taken) (blank-quiet _ _ (blank c)))
 
-add-i : tie.Need-add-i Inv-loop μ-loop
-add-i c = omega (arith, i-fits (entry (rowed (c .before .before))))
+add-i-2 : tie.Need-add-i-2 Inv-loop μ-loop
+add-i-2 c = omega (arith, i-fits (entry (rowed (c .before .before))))
 
-loop-less : tie.Need-loop-less Inv-loop μ-loop
-loop-less c = omega (arith, entry (rowed (c .before .before)) .loop-test .taken)
+loop-less-2 : tie.Need-loop-less-2 Inv-loop μ-loop
+loop-less-2 c = omega (arith, entry (rowed (c .before .before)) .loop-test .taken)
 
-loop-again : tie.Need-loop-again Inv-loop μ-loop
-loop-again c =
+loop-again-2 : tie.Need-loop-again-2 Inv-loop μ-loop
+loop-again-2 c =
     let at = entry (rowed (c .before .before)) in
     looping-quiet (at .before .loop .inv) (at .loop-test .taken) (blank-quiet _ _ (blank (c .before)))
 
@@ -285,50 +321,17 @@ pointed-requires c κs = search needs
 cast-m : tie.Need-cast-m Inv-loop μ-loop
 cast-m c = omega (arith, node-below (c .before))
 
-same-event-requires-2 : tie.Need-same-event-requires-2 Inv-loop μ-loop
-same-event-requires-2 c κs = search needs
-
-place-requires : tie.Need-place-requires Inv-loop μ-loop
-place-requires c κs = search needs
-
-mul-if3 : tie.Need-mul-if3 Inv-loop μ-loop
-mul-if3 c = omega (arith, node-below (waited c))
-
-element-copy-out-if3 : tie.Need-element-copy-out-if3 Inv-loop μ-loop
-element-copy-out-if3 c = node-below (waited c)
-
-mul-has-copy : tie.Need-mul-has-copy Inv-loop μ-loop
-mul-has-copy c = omega (arith, c .place .ensures, node-below (waited c))
-
-element-copy-out-has-copy : tie.Need-element-copy-out-has-copy Inv-loop μ-loop
-element-copy-out-has-copy c = omega (arith, c .place .ensures, node-below (waited c))
-
-has-copy-requires : tie.Need-has-copy-requires Inv-loop μ-loop
-has-copy-requires c κs = search needs
-
-add-state-2 : tie.Need-add-state-2 Inv-loop μ-loop
-add-state-2 c = let at = entry-spun c in omega (arith, counts-fit (at .before .loop .inv) (at .loop-test .taken) (spun c))
-
-add-i-2 : tie.Need-add-i-2 Inv-loop μ-loop
-add-i-2 c = omega (arith, i-fits (entry-spun (c .before)))
-
-loop-less-2 : tie.Need-loop-less-2 Inv-loop μ-loop
-loop-less-2 c = omega (arith, entry-spun (c .before) .loop-test .taken)
-
-loop-again-2 : tie.Need-loop-again-2 Inv-loop μ-loop
-loop-again-2 c = let at = entry-spun (c .before) in looping-quiet (at .before .loop .inv) (at .loop-test .taken) (spun (c .before))
-
 mul-node : tie.Need-mul-node Inv-loop μ-loop
-mul-node c = omega (arith, node-below (tested (c .before)))
+mul-node c = omega (arith, node-below (c .before))
 
 element-copy-out-node : tie.Need-element-copy-out-node Inv-loop μ-loop
-element-copy-out-node c = node-below (tested (c .before))
+element-copy-out-node c = node-below (c .before)
 
 event-in-requires : tie.Need-event-in-requires Inv-loop μ-loop
 event-in-requires c κs = search needs
 
-same-event-requires-3 : tie.Need-same-event-requires-3 Inv-loop μ-loop
-same-event-requires-3 c κs = search needs
+same-event-requires-2 : tie.Need-same-event-requires-2 Inv-loop μ-loop
+same-event-requires-2 c κs = search needs
 
 call-place-requires : tie.Need-call-place-requires Inv-loop μ-loop
 call-place-requires c κs = search needs
@@ -447,7 +450,7 @@ loop-again-3 c =
     let noted = c .before .before .before .before .note-entry .ensures in
     looping-next (at .before .loop .inv) (at .loop-test .taken) (called more) (serves (joined more)) (call .before .plus .ensures)
     (record {
-      of-applies = placed (joined more) .before .same-event3 .ensures;
+      of-applies = placed (joined more) .before .same-event2 .ensures;
       of-call = call .call-place2 .ensures;
       of-served = c .before .before .before .before .before .before .before .before .served-place .ensures;
       of-turns = noted .0;
@@ -469,8 +472,21 @@ from-start-spec =
     all-rows-requires
     unkept-requires
     loop-holds
-    shared-slice-read-t56
+    shared-slice-read-t58
     cast-t
+    mul-seen
+    element-copy-out-seen
+    place-requires
+    cast-spun
+    mul-if2
+    element-copy-out-if2
+    mul-has-copy
+    element-copy-out-has-copy
+    has-copy-requires
+    add-state
+    add-i
+    loop-less
+    loop-again
     mul-named
     element-copy-out-named
     line-run-requires
@@ -478,27 +494,16 @@ from-start-spec =
     mul-row
     array-copy-out-row
     same-event-requires
-    add-state
-    add-i
-    loop-less
-    loop-again
-    pointed-requires
-    cast-m
-    same-event-requires-2
-    place-requires
-    mul-if3
-    element-copy-out-if3
-    mul-has-copy
-    element-copy-out-has-copy
-    has-copy-requires
     add-state-2
     add-i-2
     loop-less-2
     loop-again-2
+    pointed-requires
+    cast-m
     mul-node
     element-copy-out-node
     event-in-requires
-    same-event-requires-3
+    same-event-requires-2
     call-place-requires
     mul-slot
     element-copy-out-slot
