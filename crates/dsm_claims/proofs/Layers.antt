@@ -19,8 +19,10 @@ use Rattle.machine.specs.declared.Method.the-variants.{DsmSynch}
 use Rattle.machine.specs.declared.ThreadId.{ThreadId}
 use Rattle.machine.specs.declared.Event.{Event}
 use Rattle.machine.specs.declared.Event.the-variants.{Blank, CallBegins, Swaps, Applies, Returns}
+use Rattle.machine.specs.Accesses.{whole}
 use Rattle.machine.specs.Fields.{isNull}
 use Rattle.machine.specs.Owners.{ownerOf}
+use Rattle.copies.proofs.Owners.{owns-two}
 use Rattle.dsm_synch.specs.Lines.{Line, number}
 use Rattle.state.specs.declared.State.{State}
 use Rattle.state.specs.Shape.{Shaped}
@@ -176,7 +178,8 @@ module _ (f : Fields) (fits : InRange f) (s : State) (past : List Entry) (t : Th
     gives-other : givesOwn e past ≡ false
     gives-other =
         by-event e Swaps
-        (λ q. rw (is-so e Swaps q) (ne-eqb (ownerOf (s .tail)) (t .0) (swap-gives (now .control) does (now .tip) few (here Swaps (tells .swaps) q))))
+        (λ q. rw (is-so e Swaps q)
+        (sym (owns-two (t .0) (whole (s .tail))) ∙ ne-eqb (ownerOf (s .tail)) (t .0) (swap-gives (now .control) does (now .tip) few (here Swaps (tells .swaps) q))))
         (λ q. rw (is-not e Swaps q))
 
     shows : Shows Paid f (seenOf (viewOf s)) (positionsOf (now .ledger)) (now .cost) costs (now .answers) past (t .0) e (dsm.applied s t .answer)

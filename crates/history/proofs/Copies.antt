@@ -11,8 +11,9 @@ use Rattle.object.proofs.Each.{each-map}
 use Rattle.machine.specs.declared.Method.the-variants.{CcSynch, DsmSynch}
 use Rattle.machine.specs.declared.ThreadId.{ThreadId}
 use Rattle.machine.specs.Accesses.{Access, Location, located}
-use Rattle.copies.specs.Remote.{hasCopyOf, copiesAfter, referred, owns}
+use Rattle.copies.specs.Remote.{hasCopyOf, copiesAfter, referred}
 use Rattle.copies.proofs.Holding.{Inside, copy-after}
+use Rattle.copies.proofs.Owners.{owns-two}
 use Rattle.history.specs.Entries.{threadId}
 use Rattle.history.specs.Copies.{decides, copyAfter, remoteSaid, remoteByOwner, remoteMarks}
 
@@ -47,7 +48,7 @@ module _ (n t : ℕ) (below : t < n) (few : n ≤ 16) where
       (remote-marks (copiesAfter n t a copies) rest (inside-after copies a rest (inside .1))
       ∙ said-same (threadId t) _ _ rest (λ l. copy-after n t copies below few a (inside .0) t below l ∙ rw (eq-eqb t t refl)))
 
--- and by DSM-Synch they are what the owners of the locations say
+-- and by DSM-Synch they are those to none of its own nodes
 pub owner-marks : (n t : ℕ) (copies : List ℕ) (accesses : List Access) → remoteMarks DsmSynch n t copies accesses ≡ remoteByOwner (threadId t) accesses
 owner-marks n t copies [] = refl
-owner-marks n t copies (a ∷ rest) = ap (λ (marks : List Bool). not (owns t (located a)) ∷ marks) (owner-marks n t copies rest)
+owner-marks n t copies (a ∷ rest) = ap₂ (λ (own : Bool) (marks : List Bool). not own ∷ marks) (owns-two t (located a)) (owner-marks n t copies rest)

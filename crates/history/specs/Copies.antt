@@ -8,7 +8,8 @@ use Rattle.machine.specs.declared.Method.{Method}
 use Rattle.machine.specs.declared.Method.the-variants.{CcSynch, DsmSynch}
 use Rattle.machine.specs.declared.ThreadId.{ThreadId}
 use Rattle.machine.specs.Accesses.{Access, Location, sameLocation, located}
-use Rattle.copies.specs.Remote.{ends, owns, atHand, leftCopies}
+use Rattle.machine.specs.Owners.{itsOwn}
+use Rattle.copies.specs.Remote.{ends, atHand, leftCopies}
 use Rattle.history.specs.Entries.{Entry}
 
 -- whether an access of thread u decides if thread t has a copy of a location: by an access of its own it has, by another's write or Swap it has not
@@ -30,9 +31,9 @@ abbrev pub remoteSaid : ThreadId → (Location → Bool) → List Access → Lis
 remoteSaid t valid [] = []
 remoteSaid t valid (access ∷ accesses) = not (valid (located access)) ∷ remoteSaid t (λ l. cond (decides t l t access) true (valid l)) accesses
 
--- the same of DSM-Synch, which has no copies: each exactly if t is not the owner. It is the owner rule again; which accesses are made is `as-tabled` of dsm_synch
+-- the same of DSM-Synch, which has no copies: "Tail is remote to everyone; a node is remote to all but its owner". Which accesses are made is `as-tabled` of dsm_synch
 abbrev pub remoteByOwner : ThreadId → List Access → List Bool
-remoteByOwner t = map (λ access. not (owns (t .0) (located access)))
+remoteByOwner t = map (λ access. not (itsOwn (t .0) (located access)))
 
 -- by the method, of an entry with its past
 abbrev pub marksSaid : Method → Entry → List Entry → List Bool

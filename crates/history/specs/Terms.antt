@@ -18,7 +18,7 @@ use Rattle.machine.specs.declared.RetVal.the-variants.{NoAnswer, Answered}
 use Rattle.machine.specs.declared.Event.{Event}
 use Rattle.machine.specs.declared.Event.the-variants.{Blank, CallBegins, Swaps, TurnBegins, Applies, TurnEnds, Returns, Spins}
 use Rattle.machine.specs.Accesses.{whole}
-use Rattle.copies.specs.Remote.{owns}
+use Rattle.machine.specs.Owners.{itsOwn}
 use Rattle.state.specs.declared.Counts.{Counts}
 use Rattle.step.specs.Entry.{oneIf}
 use Rattle.history.specs.Entries.{Entry, threadId, sumOver, happened, inOrder, latest, is, isBy, howMany, remoteIn}
@@ -103,9 +103,9 @@ servedIn turn = sumOver (λ e past. oneIf (is Applies e && eqb (turnOf (e .threa
 abbrev pub costOf : Call → List Entry → ℕ
 costOf c = sumOver (λ e past. cond (isOf c e past) (remoteIn (e .remote)) 0)
 
--- whether a Swap gives a node of its own thread, and whether that is another than the one that it puts in: nodes 2i and 2i + 1 are thread i's, in DSM-Synch
+-- whether a Swap of DSM-Synch gives a node of its own thread, and whether that is another than the one that it puts in
 abbrev pub givesOwn : Entry → List Entry → Bool
-givesOwn e past = is Swaps e && owns (e .thread .0) (whole (e .given))
+givesOwn e past = is Swaps e && itsOwn (e .thread .0) (whole (e .given))
 
 abbrev pub gaveOther : Call → List Entry → Bool
 gaveOther c = latest false (does Swaps c) (λ e past. givesOwn e past && not (eqb (e .given .0) (e .node .0)))
