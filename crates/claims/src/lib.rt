@@ -1,1 +1,1 @@
-// Demand 3, proved on the definitions: this crate has a statement and its proof, and no code.
+// Demand 3 of both methods, and its proof of CC-Synch, on the definitions: no code.

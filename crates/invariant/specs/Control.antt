@@ -1,4 +1,4 @@
--- The invariant of lines, nodes and Tail: what holds of every slot after every entry, by the ledger.
+-- The invariant of a CC-Synch run's lines, nodes and Tail: what holds of every slot after every entry, by the ledger.
 use Prim.Native.Nat.{ℕ, suc, _+_, _≤_, _<_}
 use mathlib.Core.Path.{_≡_}
 use mathlib.Core.Bool.{Bool, true, false, cond}

@@ -1,4 +1,4 @@
--- The invariant of requests, answers and the object: what holds of every open call, of the answers given and of the object after every entry.
+-- The invariant of requests, answers and the object of a CC-Synch run: what holds of every open call, of the answers given and of the object after every entry.
 use Prim.Native.Nat.{ℕ, _<_}
 use mathlib.Core.Path.{_≡_}
 use mathlib.Core.List.{List}

@@ -1,4 +1,4 @@
--- The ledger of a run: positions in Swap order, and how far the serving of them has come. A proof keeps it beside the machine; no code does.
+-- The ledger of a CC-Synch run: positions in Swap order, and how far the serving of them has come. A proof keeps it beside the machine; no code does.
 use Prim.Native.Nat.{ℕ, suc}
 use mathlib.Core.Bool.{Bool, true, false, cond}
 use lib.Dec.{eqb}

@@ -1,4 +1,4 @@
--- Remote references by stage: how many the open call of a thread has made at most, with those that it would make at the nodes at hand.
+-- Remote references by stage: how many the open call of a thread of CC-Synch has made at most, with those that it would make at the nodes at hand.
 use Prim.Native.Nat.{ℕ, _+_, _-_, _≤_, _<_}
 use mathlib.Core.Bool.{Bool, true, false, cond}
 use mathlib.Core.List.{List}

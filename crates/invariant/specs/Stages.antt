@@ -1,4 +1,4 @@
--- Where a thread stands, grouped by what it holds: its own node, a queued node while it waits, or the turn.
+-- Where a thread of CC-Synch stands, grouped by what it holds: its own node, a queued node while it waits, or the turn.
 use Prim.Native.Nat.{ℕ}
 use mathlib.Core.Bool.{Bool, true, false}
 use mathlib.Core.List.{List, [], _∷_}

@@ -1,1 +1,1 @@
-// The invariant behind demand 3, stated and proved on the definitions of the machine: no code.
+// The invariant of CC-Synch behind demand 3, and what DSM-Synch's shares with it, stated and proved on the definitions of the machine: no code.

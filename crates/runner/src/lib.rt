@@ -37,7 +37,8 @@ fn from_start(schedule: &[u8], start: State) -> Played
     while i < schedule.len() {
         let thread = ThreadId(schedule[i]);
         let t = thread.0 as usize;
-        // Two kinds of entry change nothing but a count: a spin on a valid copy, looked for before all else, and a blank.
+        // Two kinds of entry change nothing but a count: a spin on a valid copy, looked for before all else, and a blank. Where the entry is no spin, the
+        // thread is copied out again: one copy for both is slower.
         let seen = state.threads[t];
         if seen.line == cc_lines::SPIN_LINE {
             let at = copies::place(seen.cur);

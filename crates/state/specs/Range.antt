@@ -1,5 +1,5 @@
 -- The ranges of a state of CC-Synch, number by number: document 01, 'A single step judges 14 ..', and request No. 3. What lies past n, a thread's count or the
--- items held is not judged.
+-- items held, and what only DSM-Synch uses, is not judged.
 use Prim.Native.Nat.{ℕ, _+_, _*_, _^_}
 use mathlib.Core.Bool.{Bool, true, false, _&&_, _||_}
 use mathlib.Core.List.{List, [], _∷_}

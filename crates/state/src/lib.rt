@@ -1,4 +1,4 @@
-// The state of a single step: the machine, the requests, the copies, the object and the counts; and whether each of its numbers is in range.
+// The state of a single step: the machine, the requests, the copies, the object and the counts; and whether the numbers that CC-Synch uses are in range.
 ghost use mathlib.Core.Path.{_≡_};
 ghost use Prim.Native.Nat.{_+_, _≤_};
 ghost use lib.ListN.{take};
