@@ -24,6 +24,8 @@ use Rattle.machine.specs.declared.Announced.the-variants.{Asked}
 use Rattle.machine.specs.declared.RetVal.the-variants.{Answered}
 use Rattle.machine.specs.declared.Event.{Event}
 use Rattle.machine.specs.declared.Event.the-variants.{Blank, Swaps, TurnBegins, Applies}
+use Rattle.machine.specs.Accesses.{toNull}
+use Rattle.machine.specs.Fields.{isNull}
 use Rattle.state.specs.declared.State.{State}
 use Rattle.state.specs.Range.{countsInRange}
 use Rattle.step.specs.Entry.{oneIf, zeroThread, line}
@@ -181,8 +183,10 @@ pub record ReturnsAt (m : Method) (f : Fields) (c : Call) (k : ℕ) : Type 0 whe
 abbrev pub leftBy : State → ThreadId → ℕ
 leftBy s t = let thread = getD (s .threads) (t .0) zeroThread in thread .begun - oneIf (not (eqb (thread .line) 0))
 
--- of the causes of 14 that a line of DSM-Synch has, the entry of a thread has none but that it meets null, and that at line 21 or 26
+-- the entry of a thread by DSM-Synch meets null exactly if one of its accesses goes to null or it would put null into tmpNode, by line 21; of the causes of 14
+-- that a line has, it has no other; and it meets null at line 21 or 26 alone
 pub record NullAlone (s : State) (t : ThreadId) : Type 0 where
+  pub exactly : dsm.nullMet s t ≡ (toNull (dsm.accesses s t) || eqb (line s t) 21 && isNull (dsm.node s t .next))
   pub alone : dsm.out s t ≡ dsm.nullMet s t
   pub lines : dsm.nullMet s t ≡ true → (eqb (line s t) 21 || eqb (line s t) 26) ≡ true
 

@@ -24,6 +24,7 @@ use Rattle.machine.specs.Fields.{isNull}
 use Rattle.machine.specs.Owners.{ownerOf}
 use Rattle.copies.proofs.Owners.{owns-two}
 use Rattle.dsm_synch.specs.Lines.{Line, number}
+use Rattle.dsm_synch.proofs.Null.{meets-exactly}
 use Rattle.state.specs.declared.State.{State}
 use Rattle.state.specs.Shape.{Shaped}
 use Rattle.step.specs.Entry.{named, line, request}
@@ -42,7 +43,7 @@ use Rattle.dsm_invariant.specs.Data.{Data}
 use Rattle.dsm_invariant.proofs.Bridge.{number-line, stands-so, some-left, none-left, does-of}
 use Rattle.dsm_invariant.proofs.Events.{Told}
 use Rattle.dsm_invariant.proofs.Steps.{control-kept}
-use Rattle.dsm_invariant.proofs.Threads.{by-last, meets-at}
+use Rattle.dsm_invariant.proofs.Threads.{by-last, points-to-node, meets-at}
 use Rattle.dsm_invariant.proofs.Tip.{tip-kept, swap-gives}
 use Rattle.dsm_invariant.proofs.Cost.{cost-kept, returns-12}
 use Rattle.dsm_invariant.proofs.Data.{data-kept, served-asks, answer-there, no-line-out}
@@ -105,6 +106,7 @@ module _ (f : Fields) (fits : InRange f) (s : State) (past : List Entry) (t : Th
   null-alone =
       let stands = stands-so s t (now .control) below in
       record {
+        exactly = rw number-l at (meets-exactly (named s t) (dsm.node s t) l (points-to-node (now .control) l below stands few));
         alone = rw number-l at (no-line-out (now .control) (now .object) l below stands (λ q. some-left s t (now .control) below (sym number-l ∙ q)));
         lines = λ q. and-eq-true-iff (eqb (line s t) 21 || eqb (line s t) 26) (isNull (dsm.node s t .next)) .0
             (sym (rw number-l at (meets-at (now .control) (t .0) (number l) (dsm.node s t) below stands)) ∙ q) .0;

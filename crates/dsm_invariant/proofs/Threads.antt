@@ -14,6 +14,7 @@ use Rattle.machine.specs.Fields.{isNull}
 use Rattle.machine.specs.Lines.{standsAt}
 use Rattle.dsm_synch.specs.Lines.{Line, number, empties, pointed, L26}
 use Rattle.dsm_synch.specs.Effect.{meetsNull}
+use Rattle.dsm_synch.proofs.Null.{PointsToNode}
 use Rattle.dsm_synch.proofs.Numbers.{each-line, by-line}
 use Rattle.invariant.specs.View.{View}
 use Rattle.dsm_invariant.specs.Stages.{Stage, out, wait, combine, leave, nowhere, stages, stageOf, queued}
@@ -170,6 +171,12 @@ module _ {n h : ℕ} {v : View} {g : Ledger} (c : Control n h v g) {t : ℕ} (l 
   own-range above =
       let there = rw (lt-leb (number l) 2 above) at (known-there l) in
       either (λ (m : ℕ). m < 2 * n) (atTmp (number l)) (λ e. tmp-range c t below (rw stands (rw e at there))) (λ e. my-range c t below (rw stands (rw e at there)))
+
+  -- it points to a node, but for myPredNode, from line 3 on
+  pub points-to-node : n ≤ 16 → PointsToNode (v .thread t) (first v t l) l
+  points-to-node small above other =
+      rw (points (v .thread t) l, ne-eqb (number l) 9 other)
+      (ne-eqb (cond (atTmp (number l)) (v .thread t .tmp .0) (v .thread t .my .0)) 255 (λ e. omega (arith, own-range above)))
 
   behind-range : v .thread t .line ≡ 26 → isNull (first v t L26 .next) ≡ false → goal v t L26 < 2 * n
   behind-range here some =

@@ -1,13 +1,12 @@
 -- What a list of accesses reads and writes in a memory, which gives the node of each number. Assumes nothing.
 use mathlib.Core.Path.{_≡_}
-use mathlib.Core.Bool.{Bool, true, false, cond, _||_}
+use mathlib.Core.Bool.{Bool, true, false, cond}
 use mathlib.Core.List.{List, [], _∷_}
 use lib.Dec.{eqb}
 use Rattle.machine.specs.declared.NodeId.{NodeId}
 use Rattle.machine.specs.declared.Node.{Node}
 use Rattle.machine.specs.declared.Field.{Field}
 use Rattle.machine.specs.declared.Field.the-variants.{Req, Ret, Wait, Completed, Next}
-use Rattle.machine.specs.Fields.{isNull}
 use Rattle.machine.specs.Accesses.{Access, read, write, swap, cas}
 use Rattle.machine.proofs.Rows.{fieldFrom}
 
@@ -33,14 +32,6 @@ ofTail (read m field ∷ accesses) = ofTail accesses
 ofTail (write m field ∷ accesses) = ofTail accesses
 ofTail (swap ∷ accesses) = true
 ofTail (cas ∷ accesses) = true
-
--- whether one of them goes to null
-abbrev pub toNull : List Access → Bool
-toNull [] = false
-toNull (read m field ∷ accesses) = isNull m || toNull accesses
-toNull (write m field ∷ accesses) = isNull m || toNull accesses
-toNull (swap ∷ accesses) = toNull accesses
-toNull (cas ∷ accesses) = toNull accesses
 
 -- node m with the fields that the accesses write into it taken from another node, y
 abbrev pub writtenInto : NodeId → List Access → Node → Node → Node

@@ -1,6 +1,6 @@
 -- The shared accesses of a line, the only source of remote references, and the locations that they go to.
 -- An access is of one field; caches fetch nodes, so its location is the whole node: document 02, No. 5.
-use mathlib.Core.Bool.{Bool, true, false}
+use mathlib.Core.Bool.{Bool, true, false, _||_}
 use mathlib.Core.List.{List, [], _∷_, _++_}
 use lib.Dec.{eqb}
 use Rattle.machine.specs.declared.NodeId.{NodeId}
@@ -11,6 +11,7 @@ use Rattle.machine.specs.declared.Field.{Field}
 use Rattle.machine.specs.declared.SharedAccess.{SharedAccess}
 use Rattle.machine.specs.declared.SharedAccess.the-variants.{NoAccess, Read, Write, Swap}
 use Rattle.machine.specs.declared.Row.{Row}
+use Rattle.machine.specs.Fields.{isNull}
 
 -- the node that a pointer of a thread of CC-Synch gives: the thread's own node, curNode or tmpNode
 abbrev pub pointedOf : Pointer → NodeId → NodeId → NodeId → NodeId
@@ -56,3 +57,11 @@ accessTo node Swap = swap ∷ []
 -- the accesses of a row, in order
 abbrev pub accessesOf : Row → NodeId → List Access
 accessesOf row node = accessTo node (row .first) ++ accessTo node (row .second)
+
+-- whether one of a list of accesses goes to null
+abbrev pub toNull : List Access → Bool
+toNull [] = false
+toNull (read m field ∷ accesses) = isNull m || toNull accesses
+toNull (write m field ∷ accesses) = isNull m || toNull accesses
+toNull (swap ∷ accesses) = toNull accesses
+toNull (cas ∷ accesses) = toNull accesses

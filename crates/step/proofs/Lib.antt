@@ -1,6 +1,7 @@
 pub mod Accessed
 pub mod Alike
 pub mod Computed
+pub mod DsmSteps
 pub mod EachLine
 pub mod Entering
 pub mod Judged

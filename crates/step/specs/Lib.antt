@@ -1,4 +1,5 @@
 pub mod DsmEntry
+pub mod DsmSteps
 pub mod Entry
 pub mod Past
 pub mod Step
