@@ -36,11 +36,11 @@ threadOf figures = record {
 abbrev figuresOf : Thread → List ℕ
 figuresOf th = th .line ∷ th .begun ∷ th .toggle ∷ th .my .0 ∷ th .pred .0 ∷ th .tmp .0 ∷ th .served ∷ []
 
--- a node by whether it waits and its next, with a req and a ret or with neither
+-- a node by whether it waits and its next; one that has been used has a req and a ret
 abbrev nodeBy : Bool → ℕ × ℕ → Node
-nodeBy whole figures = record {
-  req = cond whole (Asked (Add 5)) NoRequest;
-  ret = cond whole (Answered (Value 7)) NoAnswer;
+nodeBy used figures = record {
+  req = cond used (Asked (Add 5)) NoRequest;
+  ret = cond used (Answered (Value 7)) NoAnswer;
   wait = eqb (figures .0) 1;
   completed = false;
   next = record { 0 = figures .1 };
@@ -53,14 +53,14 @@ pub record Figures : Type 0 where
   pub nodes : List (ℕ × ℕ)
 
 abbrev stateOf : Bool → Figures → State
-stateOf whole f = record {
+stateOf used f = record {
   n = 2;
   h = 1;
   kind = Counter;
   capacity = 0;
   tail = record { 0 = f .tail };
   threads = threadOf (f .thread) ∷ zeroThread ∷ [];
-  nodes = map (nodeBy whole) (f .nodes);
+  nodes = map (nodeBy used) (f .nodes);
   requests = [];
   copies = [];
   object = freshObject;
@@ -85,77 +85,77 @@ outcomeOf s =
       nodes = map (λ (x : Node). (oneIf (x .wait), x .next .0)) (after .nodes);
     })))
 
--- a step in figures: the state, whether its nodes have a req and a ret, and what the entry gives
+-- a step in figures: the state, whether its nodes have been used, and what the entry gives
 pub record Single : Type 0 where
-  pub whole : Bool
+  pub used : Bool
   pub before : Figures
   pub gives : Outcome
 
 abbrev pub stepped : Single → Single
-stepped w = record { whole = w .whole; before = w .before; gives = outcomeOf (stateOf (w .whole) (w .before)) }
+stepped w = record { used = w .used; before = w .before; gives = outcomeOf (stateOf (w .used) (w .before)) }
 
 -- thread 0's variables with myNode 1 and myPredNode 2, at a line, with tmpNode and the counter
 abbrev at : ℕ → ℕ → ℕ → List ℕ
 at line tmp served = line ∷ 1 ∷ 1 ∷ 1 ∷ 2 ∷ tmp ∷ served ∷ []
 
--- at line 9, with myPredNode
-abbrev at9 : ℕ → ℕ → List ℕ
-at9 line pred = line ∷ 1 ∷ 1 ∷ 1 ∷ pred ∷ 255 ∷ 0 ∷ []
+-- the same with another myPredNode, before its turn
+abbrev linking : ℕ → ℕ → List ℕ
+linking line pred = line ∷ 1 ∷ 1 ∷ 1 ∷ pred ∷ 255 ∷ 0 ∷ []
 
--- nodes that do not wait, all but one with next null; and with node 3's next and node 2's
+-- no node waits; the next of node 3, and of node 2, those of the others null
 abbrev chained : ℕ → ℕ → List (ℕ × ℕ)
-chained third second = (0, 255) ∷ (0, 255) ∷ (0, second) ∷ (0, third) ∷ []
+chained of-3 of-2 = (0, 255) ∷ (0, 255) ∷ (0, of-2) ∷ (0, of-3) ∷ []
 
--- all four wait; node 3 has a next
+-- all four wait; the next of node 3
 abbrev waiting : ℕ → List (ℕ × ℕ)
-waiting third = (1, 255) ∷ (1, 255) ∷ (1, 255) ∷ (1, third) ∷ []
+waiting of-3 = (1, 255) ∷ (1, 255) ∷ (1, 255) ∷ (1, of-3) ∷ []
 
 abbrev figures : List ℕ → ℕ → List (ℕ × ℕ) → Figures
 figures thread tail nodes = record { thread = thread; tail = tail; nodes = nodes }
 
-abbrev step : Figures → Outcome → Single
-step before gives = record { whole = true; before = before; gives = gives }
+abbrev fromUsed : Figures → Outcome → Single
+fromUsed before gives = record { used = true; before = before; gives = gives }
 
-abbrev bare : Figures → Outcome → Single
-bare before gives = record { whole = false; before = before; gives = gives }
+abbrev fromUnused : Figures → Outcome → Single
+fromUnused before gives = record { used = false; before = before; gives = gives }
 
 unfoldable pub singleSteps : List Single
 singleSteps =
     -- line 1 adds 1 to the requests begun, toggles, and empties the rest; past the requests there is none, and from idle then a blank
-    step (figures (0 ∷ 1 ∷ 1 ∷ 1 ∷ 2 ∷ 3 ∷ 1 ∷ []) 3 (chained 255 255)) (goes 0 (figures (2 ∷ 2 ∷ 0 ∷ 255 ∷ 255 ∷ 255 ∷ 0 ∷ []) 3 (chained 255 255)))
-    ∷ step (figures (1 ∷ 2 ∷ 1 ∷ 1 ∷ 2 ∷ 3 ∷ 1 ∷ []) 3 (chained 255 255)) other-14
-    ∷ step (figures (0 ∷ 2 ∷ 1 ∷ 1 ∷ 2 ∷ 3 ∷ 1 ∷ []) 3 (chained 255 255)) (goes 0 (figures (0 ∷ 2 ∷ 1 ∷ 1 ∷ 2 ∷ 3 ∷ 1 ∷ []) 3 (chained 255 255)))
+    fromUsed (figures (0 ∷ 1 ∷ 1 ∷ 1 ∷ 2 ∷ 3 ∷ 1 ∷ []) 3 (chained 255 255)) (goes 0 (figures (2 ∷ 2 ∷ 0 ∷ 255 ∷ 255 ∷ 255 ∷ 0 ∷ []) 3 (chained 255 255)))
+    ∷ fromUsed (figures (1 ∷ 2 ∷ 1 ∷ 1 ∷ 2 ∷ 3 ∷ 1 ∷ []) 3 (chained 255 255)) other-14
+    ∷ fromUsed (figures (0 ∷ 2 ∷ 1 ∷ 1 ∷ 2 ∷ 3 ∷ 1 ∷ []) 3 (chained 255 255)) (goes 0 (figures (0 ∷ 2 ∷ 1 ∷ 1 ∷ 2 ∷ 3 ∷ 1 ∷ []) 3 (chained 255 255)))
     -- line 9: myPredNode is null, its own, another's
-    ∷ step (figures (at9 9 255) 1 (chained 255 255)) meets-null
-    ∷ step (figures (at9 9 0) 1 (chained 255 255)) (goes 0 (figures (at9 10 0) 1 ((0, 1) ∷ (0, 255) ∷ (0, 255) ∷ (0, 255) ∷ [])))
-    ∷ step (figures (at9 9 3) 1 (chained 255 255)) (goes 1 (figures (at9 10 3) 1 (chained 1 255)))
+    ∷ fromUsed (figures (linking 9 255) 1 (chained 255 255)) meets-null
+    ∷ fromUsed (figures (linking 9 0) 1 (chained 255 255)) (goes 0 (figures (linking 10 0) 1 ((0, 1) ∷ (0, 255) ∷ (0, 255) ∷ (0, 255) ∷ [])))
+    ∷ fromUsed (figures (linking 9 3) 1 (chained 255 255)) (goes 1 (figures (linking 10 3) 1 (chained 1 255)))
     -- the counter at h: at 15 that is 14, at 14 not
-    ∷ step (figures (at 15 3 1) 3 (chained 255 255)) other-14
-    ∷ step (figures (at 14 3 1) 3 (chained 255 255)) (goes 0 (figures (at 15 3 1) 3 (chained 255 255)))
+    ∷ fromUsed (figures (at 15 3 1) 3 (chained 255 255)) other-14
+    ∷ fromUsed (figures (at 14 3 1) 3 (chained 255 255)) (goes 0 (figures (at 15 3 1) 3 (chained 255 255)))
     -- an empty req at 16, an empty ret at 12, 24 and 28
-    ∷ bare (figures (at 16 3 1) 3 (chained 255 255)) other-14
-    ∷ bare (figures (at 12 3 1) 3 (chained 255 255)) other-14
-    ∷ bare (figures (at 24 3 1) 3 (chained 255 255)) other-14
-    ∷ bare (figures (at 28 3 1) 3 (chained 255 255)) other-14
+    ∷ fromUnused (figures (at 16 3 1) 3 (chained 255 255)) other-14
+    ∷ fromUnused (figures (at 12 3 1) 3 (chained 255 255)) other-14
+    ∷ fromUnused (figures (at 24 3 1) 3 (chained 255 255)) other-14
+    ∷ fromUnused (figures (at 28 3 1) 3 (chained 255 255)) other-14
     -- line 19: no next; a next without one; one with one, the counter below h and at h
-    ∷ step (figures (at 19 3 0) 3 (chained 255 255)) (goes 1 (figures (at 20 3 0) 3 (chained 255 255)))
-    ∷ step (figures (at 19 3 0) 3 (chained 0 255)) (goes 2 (figures (at 20 3 0) 3 (chained 0 255)))
-    ∷ step (figures (at 19 3 0) 3 (chained 2 3)) (goes 3 (figures (at 21 3 0) 3 (chained 2 3)))
-    ∷ step (figures (at 19 3 1) 3 (chained 2 3)) (goes 3 (figures (at 20 3 1) 3 (chained 2 3)))
+    ∷ fromUsed (figures (at 19 3 0) 3 (chained 255 255)) (goes 1 (figures (at 20 3 0) 3 (chained 255 255)))
+    ∷ fromUsed (figures (at 19 3 0) 3 (chained 0 255)) (goes 2 (figures (at 20 3 0) 3 (chained 0 255)))
+    ∷ fromUsed (figures (at 19 3 0) 3 (chained 2 3)) (goes 3 (figures (at 21 3 0) 3 (chained 2 3)))
+    ∷ fromUsed (figures (at 19 3 1) 3 (chained 2 3)) (goes 3 (figures (at 20 3 1) 3 (chained 2 3)))
     -- line 21: null into tmpNode, and a node
-    ∷ step (figures (at 21 3 0) 3 (chained 255 255)) meets-null
-    ∷ step (figures (at 21 3 0) 3 (chained 2 255)) (goes 1 (figures (at 14 2 0) 3 (chained 2 255)))
+    ∷ fromUsed (figures (at 21 3 0) 3 (chained 255 255)) meets-null
+    ∷ fromUsed (figures (at 21 3 0) 3 (chained 2 255)) (goes 1 (figures (at 14 2 0) 3 (chained 2 255)))
     -- line 23: Tail is null, tmpNode, myNode
-    ∷ step (figures (at 23 3 1) 255 (chained 255 255)) (goes 1 (figures (at 25 3 1) 255 (chained 255 255)))
-    ∷ step (figures (at 23 3 1) 3 (chained 255 255)) (goes 1 (figures (at 24 3 1) 255 (chained 255 255)))
-    ∷ step (figures (at 23 3 1) 1 (chained 255 255)) (goes 1 (figures (at 25 3 1) 1 (chained 255 255)))
+    ∷ fromUsed (figures (at 23 3 1) 255 (chained 255 255)) (goes 1 (figures (at 25 3 1) 255 (chained 255 255)))
+    ∷ fromUsed (figures (at 23 3 1) 3 (chained 255 255)) (goes 1 (figures (at 24 3 1) 255 (chained 255 255)))
+    ∷ fromUsed (figures (at 23 3 1) 1 (chained 255 255)) (goes 1 (figures (at 25 3 1) 1 (chained 255 255)))
     -- line 25 at another's node, where each spin is remote
-    ∷ step (figures (at 25 3 1) 1 (chained 255 255)) (goes 1 (figures (at 25 3 1) 1 (chained 255 255)))
+    ∷ fromUsed (figures (at 25 3 1) 1 (chained 255 255)) (goes 1 (figures (at 25 3 1) 1 (chained 255 255)))
     -- line 26: the next is null, its own node, another's, the node itself
-    ∷ step (figures (at 26 3 1) 1 (waiting 255)) meets-null
-    ∷ step (figures (at 26 3 1) 1 (waiting 1)) (goes 1 (figures (at 27 3 1) 1 ((1, 255) ∷ (0, 255) ∷ (1, 255) ∷ (1, 1) ∷ [])))
-    ∷ step (figures (at 26 3 1) 1 (waiting 2)) (goes 2 (figures (at 27 3 1) 1 ((1, 255) ∷ (1, 255) ∷ (0, 255) ∷ (1, 2) ∷ [])))
-    ∷ step (figures (at 26 3 1) 1 (waiting 3)) (goes 2 (figures (at 27 3 1) 1 ((1, 255) ∷ (1, 255) ∷ (1, 255) ∷ (0, 3) ∷ [])))
+    ∷ fromUsed (figures (at 26 3 1) 1 (waiting 255)) meets-null
+    ∷ fromUsed (figures (at 26 3 1) 1 (waiting 1)) (goes 1 (figures (at 27 3 1) 1 ((1, 255) ∷ (0, 255) ∷ (1, 255) ∷ (1, 1) ∷ [])))
+    ∷ fromUsed (figures (at 26 3 1) 1 (waiting 2)) (goes 2 (figures (at 27 3 1) 1 ((1, 255) ∷ (1, 255) ∷ (0, 255) ∷ (1, 2) ∷ [])))
+    ∷ fromUsed (figures (at 26 3 1) 1 (waiting 3)) (goes 2 (figures (at 27 3 1) 1 ((1, 255) ∷ (1, 255) ∷ (1, 255) ∷ (0, 3) ∷ [])))
     -- there is no line 29
-    ∷ step (figures (at 29 3 1) 1 (chained 255 255)) other-14
+    ∷ fromUsed (figures (at 29 3 1) 1 (chained 255 255)) other-14
     ∷ []
