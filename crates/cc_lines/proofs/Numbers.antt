@@ -2,11 +2,12 @@
 use Prim.Native.Nat.{ℕ, _≤_}
 use native.Mathlib.Omega.{arith}
 use mathlib.Core.Path.{_≡_, refl}
-use mathlib.Core.Bool.{Bool, true, false, _||_}
+use mathlib.Core.Bool.{true, _||_}
 use mathlib.Core.List.{_∷_}
 use lib.Dec.{eqb}
-use borrow.Author.Tests.{eqb-true}
+use borrow.Author.Tests.{eqb-true, ne-eqb}
 use Rattle.object.specs.Each.{Each}
+use Rattle.object.proofs.Choice.{by-equal}
 use Rattle.machine.proofs.Lines.{number-at, each-of, by-number}
 use Rattle.cc_lines.specs.Lines.{Line, printed, lineOf, number, L0, L1, L2, L3, L4, L5, L6, L7, L8, L9, L10, L11, L12, L13, L14, L15, L16, L17, L18, L19, L20, L21}
 
@@ -51,8 +52,4 @@ by-line = by-number number L0 (L0 ∷ printed) line-at
 
 -- a call's last line is 11 or 21
 pub by-last : {P : Type 0} (k : ℕ) → (eqb k 11 || eqb k 21) ≡ true → (k ≡ 11 → P) → (k ≡ 21 → P) → P
-by-last {P} k last answered leaves = by-test (eqb k 11) refl last
-  where
-    by-test : (b : Bool) → eqb k 11 ≡ b → (b || eqb k 21) ≡ true → P
-    by-test true e z = answered (eqb-true k 11 e)
-    by-test false e z = leaves (eqb-true k 21 z)
+by-last k last answered leaves = by-equal k 11 answered (λ p. leaves (eqb-true k 21 (rw (ne-eqb k 11 p) at last)))

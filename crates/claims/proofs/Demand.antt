@@ -35,7 +35,7 @@ module _ (Paid : Bool → ℕ → ℕ → Type 0) (m : Method) (f : Fields) (fit
     own-never = own-never;
     counts = going .counted .counts;
     counts-fit = ap countsInRange (going .counted .counts) ∙ counts-fit history (going .counted .few) (going .short);
-    begun = λ t below. sym (kept .begun (t .0) below) ∙ sym (kept .chronicle .swaps .begun (t .0) below);
+    begun = λ t below. sym (kept .chronicle .swaps .begun (t .0) below);
     closed = closed Paid m f after history kept;
     entries =
         ap (map (λ (e : Entry). e .thread .0)) (reverse-reverse (take j (entriesBy m f)) ∙ sym (stopped m f j))

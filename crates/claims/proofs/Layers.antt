@@ -37,7 +37,7 @@ use Rattle.invariant.specs.Control.{Control}
 use Rattle.invariant.specs.Remote.{Remote}
 use Rattle.invariant.specs.Serving.{openRequest, grown}
 use Rattle.invariant.specs.Data.{Data, appliedBy}
-use Rattle.invariant.proofs.Bridge.{does-of, number-line, some-left, none-left}
+use Rattle.invariant.proofs.Bridge.{does-of, number-line, runs-it}
 use Rattle.invariant.proofs.Lines.{control-kept}
 use Rattle.invariant.proofs.Upd.{upd-same, upd-other}
 use Rattle.invariant.proofs.Remote.{remote-kept, returns-11, returns-21}
@@ -56,8 +56,7 @@ use Rattle.claims.proofs.Meets.{numbers, idle-line, last-line, count-ke
 use Rattle.claims.proofs.Run.{Going, request-going}
 use Rattle.claims.proofs.Seen.{phaseOf, seenOf, positionsOf}
 use Rattle.claims.proofs.Steps.{one-sound}
-use Rattle.claims.proofs.Telling.{entry-tells}
-use Rattle.claims.proofs.Told.{tells-of}
+use Rattle.claims.proofs.Telling.{entry-tells, tells-of}
 
 -- what CC-Synch claims of a returned call that combined or not, its turn having served k
 abbrev pub Paid : Bool → ℕ → ℕ → Type 0
@@ -82,7 +81,7 @@ pub record Layers (f : Fields) (s : State) (past : List Entry) : Type 0 where
 -- as the claim needs it: the bounds are those claimed
 pub chronicled : (f : Fields) (s : State) (past : List Entry) → Going CcSynch f s past → Layers f s past → Chronicled Paid CcSynch f s past
 chronicled f s past going now = record {
-  seen = seenOf (viewOf s);
+  phase = phaseOf;
   positions = positionsOf (now .ledger);
   cost = now .cost;
   answers = now .answers;
@@ -90,8 +89,7 @@ chronicled f s past going now = record {
   fed = rw (← going .kind, ← going .capacity) (now .object .fed);
   said = now .said;
   idle-line = λ u b z. idle-line (viewOf s .thread u .line) z;
-  busy-line = λ u b z e. omega (arith, ap phaseOf e);
-  begun = λ u b. refl;
+  idle-phase = refl;
   by-another = λ c o. o .by-another;
   combining = λ c o. o .by-itself;
 }
@@ -134,7 +132,7 @@ module _ (f : Fields) (fits : InRange f) (s : State) (past : List Entry) (t : Th
 
   -- no line takes a number out of its range
   pub stays : takesOut (named s t) (node s t) (s .h) (line s t) ≡ false
-  stays = rw number-l at (no-line-out (now .control) (now .object) few l does (λ i. some-left s t (now .sound) below (sym number-l ∙ i)))
+  stays = rw number-l at (no-line-out (now .control) (now .object) few l does (λ i. runs-it s t (now .sound) below .begins (sym number-l ∙ i)))
 
   abbrev answers-next : List Answer
   answers-next = grown (is Applies e) (now .answers) (applied s t .answer)
@@ -204,10 +202,10 @@ module _ (f : Fields) (fits : InRange f) (s : State) (past : List Entry) (t : Th
 
   -- a blank has no request left, and a call begins with one
   none-begun : Is Blank e → length (askedOf f t) ≤ named s t .begun
-  none-begun q = omega (arith, now .rows (t .0) below, none-left s t (now .sound) below (sym number-l ∙ numbers l (node s t) .blank q))
+  none-begun q = omega (arith, now .rows (t .0) below, runs-it s t (now .sound) below .blank (sym number-l ∙ numbers l (node s t) .blank q))
 
   some-begun : Is CallBegins e → named s t .begun < length (askedOf f t)
-  some-begun q = omega (arith, now .rows (t .0) below, some-left s t (now .sound) below (sym number-l ∙ numbers l (node s t) .begins q))
+  some-begun q = omega (arith, now .rows (t .0) below, runs-it s t (now .sound) below .begins (sym number-l ∙ numbers l (node s t) .begins q))
 
   shows : Shows Paid f (seenOf (viewOf s)) (positionsOf (now .ledger)) (now .cost) costs (now .answers) past (t .0) e (applied s t .answer)
   shows = record {

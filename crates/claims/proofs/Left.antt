@@ -25,18 +25,16 @@ module _ (Paid : Bool → ℕ → ℕ → Type 0) (m : Method) (f : Fields) (s :
   thread = getD (s .threads) (c .thread .0) zeroThread
 
   abbrev phase : ℕ
-  phase = now .seen .phase (c .thread .0)
+  phase = now .phase (thread .line)
 
   -- a thread that is not idle has an open call, its last
-  left-open : 0 < phase → leftBy s (c .thread) ≡ now .seen .begun (c .thread .0) - 1
+  left-open : 0 < phase → leftBy s (c .thread) ≡ thread .begun - 1
   left-open on =
-      ap (λ (b : Bool). thread .begun - oneIf (not b)) (ne-eqb (thread .line) 0 (now .busy-line (c .thread .0) below on))
-      ∙ omega (arith, now .begun (c .thread .0) below)
+      ap (λ (b : Bool). thread .begun - oneIf (not b)) (ne-eqb (thread .line) 0 (λ e. omega (arith, ap (now .phase) e, now .idle-phase)))
 
-  left-idle : phase ≡ idle → leftBy s (c .thread) ≡ now .seen .begun (c .thread .0)
+  left-idle : phase ≡ idle → leftBy s (c .thread) ≡ thread .begun
   left-idle off =
-      ap (λ (b : Bool). thread .begun - oneIf (not b)) (eq-eqb (thread .line) 0 (now .idle-line (c .thread .0) below off))
-      ∙ omega (arith, now .begun (c .thread .0) below)
+      ap (λ (b : Bool). thread .begun - oneIf (not b)) (eq-eqb (thread .line) 0 (now .idle-line (c .thread .0) below off)) ∙ omega arith
 
   by-phase : {P : Type 0} → (phase ≡ idle → P) → (0 < phase → P) → P
   by-phase off on = by-equal phase idle off (λ z. on (omega arith))

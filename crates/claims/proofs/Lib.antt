@@ -22,4 +22,3 @@ pub mod Start
 pub mod Steps
 pub mod Telling
 pub mod Theorem
-pub mod Told

@@ -9,6 +9,7 @@ use Rattle.object.specs.declared.Request.{Request}
 use Rattle.object.specs.declared.Answer.{Answer}
 use Rattle.object.proofs.Choice.{by-equal, by-order, either}
 use Rattle.machine.specs.declared.Node.{Node}
+use Rattle.machine.specs.declared.Thread.{Thread}
 use Rattle.machine.specs.declared.Event.the-variants.{Blank, CallBegins, Swaps, TurnBegins, Applies, TurnEnds, Returns, Spins, Other}
 use Rattle.machine.specs.Fields.{isNull}
 use Rattle.machine.specs.Events.{eventNumber, sameEvent}
@@ -20,12 +21,14 @@ use Rattle.cc_lines.proofs.Numbers.{each-line, number-most, by-line}
 use Rattle.invariant.specs.Ledger.{Ledger, noted}
 use Rattle.invariant.specs.View.{View, goal, does, Does}
 use Rattle.invariant.specs.Control.{Control}
+use Rattle.invariant.proofs.Serving.{field-left}
 use Rattle.invariant.proofs.Noted.{notes, at-swap, at-kept, node-kept}
 use Rattle.invariant.proofs.Seats.{positions-apart, tail-node, now, known}
 use Rattle.invariant.proofs.Threads.{queued-from, at-below, one-at-turn, serving, last-points, line-most}
 use Rattle.history.specs.Entries.{Entry, Is}
 use Rattle.history.specs.Method.{Goes, blank, begins, swaps, turns, applies, ends, helped, leaves, other, Moves, idle, waiting, combining, leaving}
 use Rattle.history.proofs.Told.{told}
+use Rattle.claims.proofs.Telling.{Tells}
 use Rattle.claims.proofs.Seen.{phaseOf, seenOf, positionsOf}
 
 -- phases by the numbers of lines
@@ -171,15 +174,8 @@ one-turn {v} c u w j k p q =
     let y = turn-line (v .thread w .line) q in
     one-at-turn c u w j k (omega (arith, x)) (x .1) (omega (arith, y)) (y .1)
 
--- the entry of thread t's line: at a Swap the node is Tail's, where a request is applied the one that the line points to
-pub record Tells (v : View) (t : ℕ) (l : Line) (e : Entry) : Type 0 where
-  pub thread : e .thread .0 ≡ t
-  pub event : e .event ≡ eventIn (rowOf l .event) (v .node (goal v t l))
-  pub assigned : Is Swaps e → e .node .0 ≡ v .tail .0
-  pub serves : Is Applies e → e .node .0 ≡ goal v t l
-
 module _ {n h : ℕ} {v v′ : View} {g : Ledger} {t : ℕ} {l : Line} {request : Request} {answer : Answer} {e : Entry} (c : Control n h v g)
-    (run : Does n h v v′ t l request answer) (tells : Tells v t l e) where
+    (run : Does n h v v′ t l request answer) (tells : Tells t (eventIn (rowOf l .event) (v .node (goal v t l))) (v .tail .0) (goal v t l) e) where
   abbrev g′ : Ledger
   g′ = noted n t (v .thread t .own .0) g l
 
@@ -218,7 +214,7 @@ module _ {n h : ℕ} {v v′ : View} {g : Ledger} {t : ℕ} {l : Line} {request 
       (λ to. absurd (omega (arith, now c u 21 below (omega (arith, line-most c u below)) .1 .past, c .order)))
 
   pub count-kept : (u : ℕ) → v′ .thread u .count ≡ v .thread u .count
-  count-kept u = by-equal u t (λ q. rw (q, run .mine) (counts-same h v t request answer l)) (λ q. rw (run .others u q))
+  count-kept = field-left (λ (th : Thread). th .count) t (run .mine) (run .others) (counts-same h v t request answer l)
 
   pub moves : Moves n h (seenOf v) (seenOf v′) (positionsOf g) (positionsOf (noted n t (v .thread t .own .0) g l)) t e
   moves = record {

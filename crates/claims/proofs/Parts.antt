@@ -44,6 +44,8 @@ use Rattle.claims.specs.Claims.{RecordSized, ReturnedCall, Timed, Earlie
 use Rattle.claims.proofs.InTurns.{in-turns}
 use Rattle.claims.proofs.Bytes.{mark-below, record-sized, mark-byte, server-byte, value-bytes, state-byte, turn-bytes, began-bytes, returned-bytes}
 use Rattle.claims.proofs.Chronicle.{Chronicle, jobsOf}
+use Rattle.invariant.specs.View.{viewOf}
+use Rattle.claims.proofs.Seen.{seenBy}
 use Rattle.claims.proofs.Chronicled.{Chronicled}
 use Rattle.claims.proofs.Run.{Going}
 use Rattle.claims.proofs.Start.{row-few}
@@ -64,7 +66,7 @@ module _ (Paid : Bool → ℕ → ℕ → Type 0) (m : Method) (f : Fields) (fit
   abbrev p : Positions
   p = kept .positions
 
-  abbrev now : Chronicle Paid f (kept .seen) p (kept .cost) (kept .answers) history
+  abbrev now : Chronicle Paid f (seenBy (kept .phase) (viewOf s)) p (kept .cost) (kept .answers) history
   now = kept .chronicle
 
   swaps-done : howMany Swaps history ≡ p .s
@@ -125,7 +127,7 @@ module _ (Paid : Bool → ℕ → ℕ → Type 0) (m : Method) (f : Fields) (fit
       rw (plain-answer i k) at shows
 
   -- a returned call
-  settles : (c : Call) → Settled Paid (f .head .n) (kept .seen) p history c → ReturnedCall m history c (shownOf c (servings history))
+  settles : (c : Call) → Settled Paid (f .head .n) (seenBy (kept .phase) (viewOf s)) p history c → ReturnedCall m history c (shownOf c (servings history))
   settles c o =
       let is : shownOf c (servings history) ≡ shown (getD (servings history) (o .position) none) = rw (← o .call noCall) (shown-there (o .position) (o .applied)) in
       rw is (record {

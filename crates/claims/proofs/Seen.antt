@@ -10,8 +10,12 @@ use Rattle.history.specs.Method.{Seen, Positions, idle, calling, waiting, combi
 abbrev pub phaseOf : ℕ → ℕ
 phaseOf k = cond (leb k 0) idle (cond (leb k 5) calling (cond (leb k 12) waiting (cond (leb k 20) combining leaving)))
 
+-- threads by the phase that a method gives a line
+abbrev pub seenBy : (ℕ → ℕ) → View → Seen
+seenBy phase v = record { phase = λ u. phase (v .thread u .line); begun = λ u. v .thread u .begun; counter = λ u. v .thread u .served }
+
 abbrev pub seenOf : View → Seen
-seenOf v = record { phase = λ u. phaseOf (v .thread u .line); begun = λ u. v .thread u .begun; counter = λ u. v .thread u .served }
+seenOf = seenBy phaseOf
 
 abbrev pub positionsOf : Ledger → Positions
 positionsOf g = record { s = g .s; a = g .a; b = g .b; node = g .node; at = g .at }

@@ -12,6 +12,8 @@ use lib.Seq.{getD-drop, getD-append-add}
 use Rattle.object.specs.declared.Kind.{Kind}
 use Rattle.object.specs.declared.Request.{Request}
 use Rattle.object.specs.declared.Request.the-variants.{Put}
+use Rattle.object.specs.Paper.{capacityAllowed}
+use Rattle.object.specs.Apply.{knows}
 use Rattle.bench_file.specs.Layout.{Fields}
 use Rattle.object.specs.Each.{Each, every}
 use Rattle.bench_file.specs.Bytes.{RequestInRange, RowInRange, InRange}
@@ -71,6 +73,13 @@ module _ (f : Fields) (fits : InRange f) where
   pub row-few : (t : ℕ) → t < f .head .n → length (getD (f .rows) t []) ≤ 16
   row-few t h = row-fits t h .count
 
+  pub capacity-fits : capacityAllowed (f .head .object) (f .head .capacity) ≡ true
+  capacity-fits = within-range _ _ _ .1 (capacity-range (f .head .object) (f .head .capacity) .1 (fits .head .capacity))
+
+  -- the object knows what a row asks for
+  pub row-known : (t q : ℕ) → t < f .head .n → q < length (getD (f .rows) t []) → knows (f .head .object) (getD (getD (f .rows) t []) q (Put 0)) ≡ true
+  row-known t q h k = request-known (f .head .object) _ (each-getD (RequestInRange (f .head .object)) (getD (f .rows) t []) q (Put 0) (row-fits t h .requests) k)
+
 module _ (m : Method) (f : Fields) (fits : InRange f) where
   -- the requests of thread t's row, and past its end the request of an empty place
   pub requests-start : (t q : ℕ) → q < 16 → getD (startBy m f .requests) (16 * t + q) zeroSlot .request ≡ askedBy f (record { thread = threadId t; request = q })
@@ -122,12 +131,11 @@ module _ (f : Fields) (fits : InRange f) where
       rw (zero-add, thread-start CcSynch f fits t h)
       (every-first (slotInRange (f .head .object)) zeroSlot (length (getD (f .rows) t [])) (drop (16 * t) (startOf f .requests)) (λ q k.
       rw (getD-drop, requests-start CcSynch f fits t q (omega (arith, row-few f fits t h)))
-      (request-known (f .head .object) _ (each-getD (RequestInRange (f .head .object)) (getD (f .rows) t []) q (Put 0) (row-fits f fits t h .requests) k)))))
+      (row-known f fits t q h k))))
 
   pub sound-start : Sound (startOf f)
   sound-start = record {
     shape = shaped-start CcSynch f fits;
     range =
-        let capacity = within-range _ _ _ .1 (capacity-range (f .head .object) (f .head .capacity) .1 (fits .head .capacity)) in
-        rw (within-range 1 (f .head .n) 16 .1 (fits .head .n), within-range 1 (f .head .h) 255 .1 (fits .head .h), capacity, leb·zero (f .head .capacity), leb·zero (f .head .n), threads-fit, nodes-fit, rows-fit);
+        rw (within-range 1 (f .head .n) 16 .1 (fits .head .n), within-range 1 (f .head .h) 255 .1 (fits .head .h), capacity-fits f fits, leb·zero (f .head .capacity), leb·zero (f .head .n), threads-fit, nodes-fit, rows-fit);
   }

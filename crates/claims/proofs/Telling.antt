@@ -1,6 +1,7 @@
 -- What an entry tells, by its event, of either method: only what the event uses. Assumes nothing.
 use native.Mathlib.Omega.{arith}
-use mathlib.Core.Path.{_≡_}
+use Prim.Native.Nat.{ℕ}
+use mathlib.Core.Path.{_≡_, refl, ap}
 use mathlib.Core.Bool.{Bool}
 use mathlib.Core.List.{List}
 use borrow.Author.Tests.{eq-eqb, ne-eqb}
@@ -41,6 +42,22 @@ tells-with t event accesses remote assigned tail applies x answer = record {
   returns = λ q. rw (eq-eqb (eventNumber event) 6 q);
 }
 
+-- the same by numbers: thread t's entry is an event; a Swap tells node j, and an entry that applies node k
+pub record Tells (t : ℕ) (is : Event) (j k : ℕ) (e : Entry) : Type 0 where
+  pub thread : e .thread .0 ≡ t
+  pub event : e .event ≡ is
+  pub assigned : Is Swaps e → e .node .0 ≡ j
+  pub serves : Is Applies e → e .node .0 ≡ k
+
+tells-numbers : {e : Entry} {assigned tail applies : NodeId} {x : Node} {answer : Answer} → Telling e assigned tail applies x answer
+    → Tells (e .thread .0) (e .event) (assigned .0) (applies .0) e
+tells-numbers f = record {
+  thread = refl;
+  event = refl;
+  assigned = λ q. ap (λ (m : NodeId). m .0) (f .assigns q);
+  serves = λ q. ap (λ (m : NodeId). m .0) (f .serves q);
+}
+
 module _ (s : State) (t : ThreadId) where
   pub entry-tells : Telling (entryOf s t) (s .tail) (s .tail) (target s t) (node s t) (applied s t .answer)
   entry-tells =
@@ -51,3 +68,9 @@ module _ (s : State) (t : ThreadId) where
   dsm-entry-tells =
       tells-with t (dsm.event s t) (dsm.accesses s t) (remoteMarks DsmSynch (s .n) (t .0) (s .copies) (dsm.accesses s t)) (named s t .my) (s .tail) (dsm.pointsTo s t)
       (dsm.node s t) (dsm.applied s t .answer)
+
+  pub tells-of : Tells (t .0) (event s t) (s .tail .0) (target s t .0) (entryOf s t)
+  tells-of = tells-numbers entry-tells
+
+  pub dsm-tells-of : Tells (t .0) (dsm.event s t) (named s t .my .0) (dsm.pointsTo s t .0) (dsmEntryOf s t)
+  dsm-tells-of = tells-numbers dsm-entry-tells

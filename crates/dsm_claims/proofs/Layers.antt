@@ -8,13 +8,10 @@ use lib.ListN.{length}
 use lib.Dec.{eqb}
 use borrow.Author.Tests.{eqb-true, eq-eqb, ne-eqb}
 use Rattle.object.specs.declared.Request.{Request}
-use Rattle.object.specs.declared.Request.the-variants.{Put}
 use Rattle.object.specs.declared.Answer.{Answer}
 use Rattle.object.specs.Apply.{knows}
-use Rattle.object.proofs.Each.{each-getD}
 use Rattle.bench_file.specs.Layout.{Fields}
-use Rattle.bench_file.specs.Bytes.{RequestInRange, InRange}
-use Rattle.bench_file.proofs.RoundTrip.{request-known}
+use Rattle.bench_file.specs.Bytes.{InRange}
 use Rattle.machine.specs.declared.Method.the-variants.{DsmSynch}
 use Rattle.machine.specs.declared.ThreadId.{ThreadId}
 use Rattle.machine.specs.declared.Event.{Event}
@@ -40,7 +37,7 @@ use Rattle.dsm_invariant.specs.Control.{Control}
 use Rattle.dsm_invariant.specs.Tip.{Tip}
 use Rattle.dsm_invariant.specs.Cost.{Cost}
 use Rattle.dsm_invariant.specs.Data.{Data}
-use Rattle.dsm_invariant.proofs.Bridge.{number-line, stands-so, some-left, none-left, does-of}
+use Rattle.dsm_invariant.proofs.Bridge.{number-line, stands-so, runs-it, does-of}
 use Rattle.dsm_invariant.proofs.Events.{Told}
 use Rattle.dsm_invariant.proofs.Steps.{control-kept}
 use Rattle.dsm_invariant.proofs.Threads.{by-last, points-to-node, meets-at}
@@ -58,11 +55,10 @@ use Rattle.claims.specs.Claims.{askedOf, NullAlone}
 use Rattle.claims.proofs.Chronicle.{asks, jobsOf, Chronicle, Shows, jobs-next, chronicle-next}
 use Rattle.claims.proofs.Counted.{remote-ones}
 use Rattle.claims.proofs.Run.{Going, request-going}
-use Rattle.claims.proofs.Start.{row-fits}
-use Rattle.claims.proofs.Telling.{dsm-entry-tells}
+use Rattle.claims.proofs.Start.{row-fits, row-known}
+use Rattle.claims.proofs.Telling.{dsm-entry-tells, dsm-tells-of}
 use Rattle.dsm_claims.proofs.Meets.{by, at-line, last-line, count-kept, moves}
 use Rattle.dsm_claims.proofs.Seen.{phaseOf, seenOf, positionsOf}
-use Rattle.dsm_claims.proofs.Told.{tells-of}
 
 -- what DSM-Synch claims of a returned call: one that another served has cost 2; of one that combined nothing
 abbrev pub Paid : Bool → ℕ → ℕ → Type 0
@@ -107,7 +103,7 @@ module _ (f : Fields) (fits : InRange f) (s : State) (past : List Entry) (t : Th
       let stands = stands-so s t (now .control) below in
       record {
         exactly = rw number-l at (meets-exactly (named s t) (dsm.node s t) l (points-to-node (now .control) l below stands few));
-        alone = rw number-l at (no-line-out (now .control) (now .object) l below stands (λ q. some-left s t (now .control) below (sym number-l ∙ q)));
+        alone = rw number-l at (no-line-out (now .control) (now .object) l below stands (λ q. runs-it s t (now .control) below .begins (sym number-l ∙ q)));
         lines = λ q. and-eq-true-iff (eqb (line s t) 21 || eqb (line s t) 26) (isNull (dsm.node s t .next)) .0
             (sym (rw number-l at (meets-at (now .control) (t .0) (number l) (dsm.node s t) below stands)) ∙ q) .0;
       }
@@ -126,28 +122,26 @@ module _ (f : Fields) (fits : InRange f) (s : State) (past : List Entry) (t : Th
     does = does-of s t (now .control) below (now .shape .threads) (now .shape .nodes) few fine
 
     tells : Told (viewOf s) (t .0) (number l) (e .event)
-    tells = by (now .control) does (tells-of s t)
+    tells = by (now .control) does (dsm-tells-of s t)
 
     -- the entry moves as a history asks
     moved : Moves (f .head .n) (f .head .h) (seenOf (viewOf s)) (seenOf (viewOf after)) (positionsOf (now .ledger)) (positionsOf next) (t .0) e
-    moved = rw (← going .n, ← going .h) (moves (now .control) does (tells-of s t))
+    moved = rw (← going .n, ← going .h) (moves (now .control) does (dsm-tells-of s t))
 
     here : (event : Event) {k : ℕ} → is event e ≡ eqb (number l) k → Is event e → number l ≡ k
-    here = at-line (now .control) does (tells-of s t)
+    here = at-line (now .control) does (dsm-tells-of s t)
 
     -- a call that begins has a request of the file, which the object knows
     some-begun : Is CallBegins e → named s t .begun < length (askedOf f t)
-    some-begun q = omega (arith, now .rows (t .0) below, some-left s t (now .control) below (sym number-l ∙ here CallBegins (tells .begins) q))
+    some-begun q = omega (arith, now .rows (t .0) below, runs-it s t (now .control) below .begins (sym number-l ∙ here CallBegins (tells .begins) q))
 
     none-begun : Is Blank e → length (askedOf f t) ≤ named s t .begun
-    none-begun q = omega (arith, now .rows (t .0) below, none-left s t (now .control) below (sym number-l ∙ here Blank (tells .blanks) q))
+    none-begun q = omega (arith, now .rows (t .0) below, runs-it s t (now .control) below .blank (sym number-l ∙ here Blank (tells .blanks) q))
 
     begins-known : number l ≡ 1 → knows (s .kind) (asks f (t .0) (named s t .begun)) ≡ true
     begins-known q =
         let less : named s t .begun < length (askedOf f t) = some-begun (eqb-true _ 1 (tells .begins ∙ eq-eqb (number l) 1 q)) in
-        rw (going .kind)
-        (request-known (f .head .object) _
-        (each-getD (RequestInRange (f .head .object)) (askedOf f t) (named s t .begun) (Put 0) (row-fits f fits (t .0) (omega (arith, going .n)) .requests) less))
+        rw (going .kind) (row-known f fits (t .0) (named s t .begun) (omega (arith, going .n)) less)
 
     does-asked : Does (s .n) (s .h) (viewOf s) (viewOf after) (t .0) l (openRequest (asks f) (viewOf s) (t .0)) (dsm.applied s t .answer)
     does-asked =
@@ -171,7 +165,7 @@ module _ (f : Fields) (fits : InRange f) (s : State) (past : List Entry) (t : Th
     -- a call returns from waiting with line 12 alone
     by-another : Is Returns e → phaseOf (named s t .line) ≡ waiting → now .cost (t .0) + remoteIn (e .remote) ≡ 2
     by-another q p =
-        by-last (number l) (last-line (now .control) does (tells-of s t) q)
+        by-last (number l) (last-line (now .control) does (dsm-tells-of s t) q)
         (λ z. rw remote-same (returns-12 (s .copies) few (now .control) (now .tip) (now .spent) does z))
         (λ z. absurd (omega (arith, rw (does .stands, z) at p)))
         (λ z. absurd (omega (arith, rw (does .stands, z) at p)))
@@ -188,7 +182,7 @@ module _ (f : Fields) (fits : InRange f) (s : State) (past : List Entry) (t : Th
     shows = record {
       takes = λ q. dsm-entry-tells s t .takes q ∙ served-asks (now .control) (now .object) l below (does .stands) (here Applies (tells .applies) q);
       gives = dsm-entry-tells s t .answers;
-      returns = λ q. dsm-entry-tells s t .returns q ∙ answer-there (now .control) (now .object) l below (does .stands) (last-line (now .control) does (tells-of s t) q);
+      returns = λ q. dsm-entry-tells s t .returns q ∙ answer-there (now .control) (now .object) l below (does .stands) (last-line (now .control) does (dsm-tells-of s t) q);
       by-another = by-another;
       by-itself = λ q p. tt;
       none-left = none-begun;
@@ -210,5 +204,5 @@ module _ (f : Fields) (fits : InRange f) (s : State) (past : List Entry) (t : Th
       chronicle = chronicle-next moved (now .chronicle) shows;
       said = (owner-marks (s .n) (t .0) (s .copies) (dsm.accesses s t), now .said);
       own-never = rw gives-other (now .own-never);
-      rows = λ u b. count-kept (now .control) does (tells-of s t) u ∙ now .rows u b;
+      rows = λ u b. count-kept (now .control) does (dsm-tells-of s t) u ∙ now .rows u b;
     }

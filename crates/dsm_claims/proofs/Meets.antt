@@ -7,18 +7,19 @@ use lib.Dec.{eqb, leb}
 use borrow.Author.Tests.{eqb-true, eq-eqb}
 use Rattle.object.specs.declared.Request.{Request}
 use Rattle.object.specs.declared.Answer.{Answer}
-use Rattle.object.proofs.Choice.{by-equal, by-test}
+use Rattle.object.proofs.Choice.{by-test}
+use Rattle.machine.specs.declared.Thread.{Thread}
 use Rattle.machine.specs.declared.Event.{Event}
 use Rattle.machine.specs.declared.Event.the-variants.{Swaps, TurnBegins, Applies, TurnEnds, Returns}
 use Rattle.machine.specs.Events.{eventNumber, sameEvent}
 use Rattle.machine.specs.Lines.{standsAt}
-use Rattle.dsm_synch.specs.Lines.{Line, number, pointed, eventIn}
+use Rattle.dsm_synch.specs.Lines.{Line, number, pointed}
 use Rattle.dsm_synch.proofs.Numbers.{by-line}
 use Rattle.step.specs.Entry.{oneIf}
 use Rattle.invariant.specs.View.{View}
-use Rattle.dsm_invariant.specs.Stages.{stageOf}
+use Rattle.invariant.proofs.Serving.{field-left}
 use Rattle.dsm_invariant.specs.Ledger.{Ledger, noted}
-use Rattle.dsm_invariant.specs.View.{first, emptied, Does}
+use Rattle.dsm_invariant.specs.View.{eventAt, Does}
 use Rattle.dsm_invariant.specs.Control.{Control}
 use Rattle.dsm_invariant.proofs.Notes.{ending, notes, at-swap, at-kept, node-kept, node-new, turn-kept}
 use Rattle.dsm_invariant.proofs.Follows.{each-after, each-run}
@@ -27,19 +28,13 @@ use Rattle.dsm_invariant.proofs.Threads.{lastLine, at-below, one-turn, waits-se
 use Rattle.history.specs.Entries.{Entry, Is}
 use Rattle.history.specs.Method.{Goes, begins, swaps, turns, applies, ends, Moves, leaving}
 use Rattle.history.proofs.Phases.{comesFrom, goesTo, goes-by}
+use Rattle.claims.proofs.Telling.{Tells}
 use Rattle.dsm_claims.proofs.Seen.{phaseOf, seenOf, positionsOf, phase-queued, phase-combines, phase-waits}
 
--- the entry of thread t's line: a Swap assigns myNode, and what is applied is the req of the node that the line points to
-pub record Tells (v : View) (t : ℕ) (l : Line) (e : Entry) : Type 0 where
-  pub thread : e .thread .0 ≡ t
-  pub event : e .event ≡ eventIn (first v t l) (emptied v t) l
-  pub assigned : Is Swaps e → e .node .0 ≡ v .thread t .my .0
-  pub serves : Is Applies e → e .node .0 ≡ pointed (v .thread t) l .0
-
 module _ {n h : ℕ} {v v′ : View} {g : Ledger} {t : ℕ} {l : Line} {request : Request} {answer : Answer} {e : Entry} (c : Control n h v g)
-    (run : Does n h v v′ t l request answer) (tells : Tells v t l e) where
+    (run : Does n h v v′ t l request answer) (tells : Tells t (eventAt v t l) (v .thread t .my .0) (pointed (v .thread t) l .0) e) where
   pub by : Told v t (number l) (e .event)
-  by = rw (tells .event) (told run)
+  by = rw (tells .event) (told v t l)
 
   -- where an event is told by a test of its line, its entry passes it
   so : (event : Event) {test : Bool} → sameEvent (e .event) event ≡ test → Is event e → test ≡ true
@@ -70,7 +65,7 @@ module _ {n h : ℕ} {v v′ : View} {g : Ledger} {t : ℕ} {l : Line} {request 
       (omega arith) (omega arith))
 
   pub count-kept : (u : ℕ) → v′ .thread u .count ≡ v .thread u .count
-  count-kept u = by-equal u t (λ q. rw q (each-after run (λ m th. th .count ≡ v .thread t .count) (omega arith))) (λ q. rw (run .others u q))
+  count-kept = field-left (λ (th : Thread). th .count) t refl (run .others) (each-after run (λ m th. th .count ≡ v .thread t .count) (omega arith))
 
   pub moves : Moves n h (seenOf v) (seenOf v′) (positionsOf g) (positionsOf (noted v t g l)) t e
   moves = record {
@@ -89,9 +84,9 @@ module _ {n h : ℕ} {v v′ : View} {g : Ledger} {t : ℕ} {l : Line} {request 
     };
     counter = counter;
     order = c .order .applied;
-    at-below = λ u j q. at-below c u j (phase-queued (stageOf (v .thread u .line)) q);
-    one-turn = λ u w j k p q. one-turn c u w j k (phase-combines (stageOf (v .thread u .line)) p) (phase-combines (stageOf (v .thread w .line)) q);
-    no-turn = λ q u j p. no-turn c l (run .below) (run .stands) (at-line TurnBegins (by .turns) q) u j (phase-combines (stageOf (v .thread u .line)) p);
+    at-below = λ u j q. at-below c u j (phase-queued (v .thread u .line) q);
+    one-turn = λ u w j k p q. one-turn c u w j k (phase-combines (v .thread u .line) p) (phase-combines (v .thread w .line) q);
+    no-turn = λ q u j p. no-turn c l (run .below) (run .stands) (at-line TurnBegins (by .turns) q) u j (phase-combines (v .thread u .line) p);
     turn-at = λ q. turn-applied c l (run .below) (run .stands) (at-line TurnBegins (by .turns) q);
     serving = λ q.
         let here = at-line Applies (by .applies) q in
@@ -99,7 +94,7 @@ module _ {n h : ℕ} {v v′ : View} {g : Ledger} {t : ℕ} {l : Line} {request 
         (tells .serves q ∙ by-line (λ (m : Line). pointed (v .thread t) m .0 ≡ v .thread t .tmp .0) l here refl ∙ f .0, f .1, f .2);
     waits = λ q u j apart p z.
         let mine = run .stands ∙ ap standsAt (at-line Applies (by .applies) q) in
-        phase-waits (stageOf (v .thread u .line)) (waits-served c t u (run .below) j apart (rw mine tt) (phase-queued (stageOf (v .thread u .line)) p) z);
+        phase-waits (v .thread u .line) (waits-served c t u (run .below) j apart (rw mine tt) (phase-queued (v .thread u .line) p) z);
     turn-ends = λ q. turn-ends c l (run .below) (run .stands) (so TurnEnds (by .ends) q);
     not-given = λ q i low high z. not-given c l (run .below) (run .stands) (at-line Swaps (by .swaps) q) i high (omega arith) (sym (tells .assigned q) ∙ sym z);
     last = λ q. last c l (run .below) (run .stands) (last-line q);

@@ -3,17 +3,19 @@
 use Prim.Native.Nat.{ℕ, _≤_, _<_}
 use native.Mathlib.Omega.{arith}
 use mathlib.Core.Path.{_≡_, refl}
-use mathlib.Core.Bool.{Bool, cond}
-use lib.Dec.{T, leb}
+use mathlib.Core.Bool.{cond}
+use lib.Dec.{T, leb, eqb, le→leb, eqb→eq}
 use borrow.Author.Tests.{lt-leb}
-use Rattle.object.proofs.Choice.{by-equal, by-order, either}
+use Rattle.object.proofs.Choice.{by-equal, by-order}
 use Rattle.dsm_synch.specs.Lines.{Line, lineOf, number}
 use Rattle.dsm_synch.proofs.Numbers.{number-of, each-line}
 use Rattle.invariant.specs.View.{View}
 use Rattle.dsm_invariant.specs.Stages.{Stage, out, wait, combine, leave, nowhere, stageOf, queued}
 use Rattle.dsm_invariant.specs.Ledger.{Ledger, nodeAt}
 use Rattle.dsm_invariant.specs.Control.{outRow, Control}
+use Rattle.dsm_invariant.proofs.Basics.{implied}
 use Rattle.dsm_invariant.proofs.Threads.{combines, waiting as waits, line-most, line-begun}
+use Rattle.claims.proofs.Seen.{seenBy}
 use Rattle.history.specs.Method.{Seen, Positions, idle, calling, waiting, combining, leaving}
 
 -- lines 2 to 7 come before the Swap has been done, 8 to 13 wait, 14 to 23, 25 and 26 are the turn, 24, 27 and 28 leave
@@ -28,34 +30,19 @@ abbrev pub phaseOf : ℕ → ℕ
 phaseOf k = phaseAt (stageOf k)
 
 abbrev pub seenOf : View → Seen
-seenOf v = record { phase = λ u. phaseOf (v .thread u .line); begun = λ u. v .thread u .begun; counter = λ u. v .thread u .served }
+seenOf = seenBy phaseOf
 
 abbrev pub positionsOf : Ledger → Positions
 positionsOf g = record { s = g .s; a = g .a; b = g .b; node = nodeAt g; at = g .at }
 
-out-low : (begun : Bool) → cond begun calling idle ≤ calling
-out-low begun = either (λ (k : ℕ). k ≤ calling) begun (λ _. omega arith) (λ _. omega arith)
+pub phase-queued : (k : ℕ) → waiting ≤ phaseOf k → T (queued (stageOf k))
+phase-queued k q = implied (λ s. leb waiting (phaseAt s)) queued refl k (le→leb waiting (phaseOf k) q)
 
-pub phase-queued : (s : Stage) → waiting ≤ phaseAt s → T (queued s)
-phase-queued (out o) q = absurd (omega (arith, out-low (outRow o .begun)))
-phase-queued (wait w) q = tt
-phase-queued (combine c) q = tt
-phase-queued (leave v) q = tt
-phase-queued nowhere q = absurd (omega arith)
+pub phase-combines : (k : ℕ) → phaseOf k ≡ combining → T (combines (stageOf k))
+phase-combines k q = implied (λ s. eqb (phaseAt s) combining) combines refl k (rw q tt)
 
-pub phase-combines : (s : Stage) → phaseAt s ≡ combining → T (combines s)
-phase-combines (out o) q = absurd (omega (arith, out-low (outRow o .begun)))
-phase-combines (wait w) q = absurd (omega arith)
-phase-combines (combine c) q = tt
-phase-combines (leave v) q = absurd (omega arith)
-phase-combines nowhere q = absurd (omega arith)
-
-pub phase-waits : (s : Stage) → T (waits s) → phaseAt s ≡ waiting
-phase-waits (out o) q = absurd q
-phase-waits (wait w) q = refl
-phase-waits (combine c) q = absurd q
-phase-waits (leave v) q = absurd q
-phase-waits nowhere q = absurd q
+pub phase-waits : (k : ℕ) → T (waits (stageOf k)) → phaseOf k ≡ waiting
+phase-waits k q = eqb→eq (phaseOf k) waiting (implied waits (λ s. eqb (phaseAt s) waiting) refl k q)
 
 -- an idle thread runs no line next
 busy : (k : ℕ) → 2 ≤ k → k ≤ 28 → 1 ≤ phaseOf k

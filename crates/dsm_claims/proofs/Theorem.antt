@@ -5,14 +5,11 @@ use mathlib.Core.Path.{_≡_, refl, ap}
 use mathlib.Core.Bool.{true}
 use mathlib.Core.List.{List, [], reverse}
 use lib.ListN.{take}
-use Rattle.object.proofs.Within.{within-range}
 use Rattle.bench_file.specs.Layout.{Fields}
 use Rattle.bench_file.specs.Bytes.{InRange}
-use Rattle.bench_file.proofs.RoundTrip.{capacity-range}
 use Rattle.machine.specs.declared.Method.the-variants.{DsmSynch}
 use Rattle.machine.specs.declared.Thread.{Thread}
 use Rattle.state.specs.declared.State.{State}
-use Rattle.step.specs.DsmEntry as dsm
 use Rattle.invariant.specs.View.{viewOf}
 use Rattle.dsm_invariant.specs.Ledger.{freshLedger}
 use Rattle.dsm_invariant.proofs.Start.{Fresh, control-fresh}
@@ -28,14 +25,14 @@ use Rattle.claims.proofs.Chronicled.{Chronicled}
 use Rattle.claims.proofs.Cut.{NoNull, none-met}
 use Rattle.claims.proofs.Demand.{demand-3-from}
 use Rattle.claims.proofs.Run.{Going, run-keeps}
-use Rattle.claims.proofs.Start.{shaped-start, thread-start}
+use Rattle.claims.proofs.Start.{capacity-fits, shaped-start, thread-start}
 use Rattle.dsm_claims.proofs.Layers.{Paid, Layers, null-alone, layers-next}
 use Rattle.dsm_claims.proofs.Seen.{phaseOf, seenOf, positionsOf, idle-line}
 
 -- as the claim needs it: what a call that another served has cost is what is claimed, since no Swap gives its thread's other node
 chronicled : (f : Fields) (s : State) (past : List Entry) → Going DsmSynch f s past → Layers f s past → Chronicled Paid DsmSynch f s past
 chronicled f s past going now = record {
-  seen = seenOf (viewOf s);
+  phase = phaseOf;
   positions = positionsOf (now .ledger);
   cost = now .cost;
   answers = now .answers;
@@ -43,8 +40,7 @@ chronicled f s past going now = record {
   fed = rw (← going .kind, ← going .capacity) (now .object .fed);
   said = now .said;
   idle-line = λ u b z. idle-line (now .control) u (omega (arith, going .n)) z;
-  busy-line = λ u b z e. omega (arith, ap phaseOf e);
-  begun = λ u b. refl;
+  idle-phase = refl;
   by-another = λ c o alone. rw (never-other c past (now .own-never)) (o .by-another alone);
   combining = λ c o alone. tt;
 }
@@ -71,9 +67,7 @@ module _ (f : Fields) (fits : InRange f) where
         control = control-fresh n (f .head .h) v fresh-start;
         tip = tip-fresh n v idle;
         spent = cost-fresh n v (λ u. 0) idle;
-        object =
-            data-fresh n (asks f) (f .head .object) (f .head .capacity) v
-            (within-range _ _ _ .1 (capacity-range (f .head .object) (f .head .capacity) .1 (fits .head .capacity))) idle;
+        object = data-fresh n (asks f) (f .head .object) (f .head .capacity) v (capacity-fits f fits) idle;
         chronicle =
             chronicle-fresh Paid f (seenOf v) (positionsOf freshLedger) (λ u. 0) (λ u b. ap phaseOf (idle u b))
             (λ u b. ap (λ (th : Thread). th .begun) (thread-start DsmSynch f fits u b)) refl refl;

@@ -1,36 +1,27 @@
 -- The entry of a real state of DSM-Synch tells what its line does: a Swap the node that Tail then points to and the one that Tail pointed to. Assumes nothing.
-use mathlib.Core.Path.{_≡_, refl, sym, ap, _∙_}
+use mathlib.Core.Path.{_≡_, sym, _∙_}
 use borrow.Author.Tests.{eqb-true, eq-eqb}
-use Rattle.machine.specs.declared.NodeId.{NodeId}
 use Rattle.machine.specs.declared.ThreadId.{ThreadId}
 use Rattle.machine.specs.declared.Event.the-variants.{Swaps}
 use Rattle.machine.specs.Events.{eventNumber}
 use Rattle.dsm_synch.specs.Lines.{Line, number}
 use Rattle.dsm_synch.specs.Effect.{executed}
 use Rattle.dsm_synch.proofs.Numbers.{by-line}
-use Rattle.dsm_synch.proofs.Table.{swaps-at-7, swaps-in}
+use Rattle.dsm_synch.proofs.Table.{swaps-in}
 use Rattle.state.specs.declared.State.{State}
 use Rattle.step.specs.Entry.{named, request}
 use Rattle.step.specs.DsmEntry as dsm
 use Rattle.history.specs.Entries.{Is}
 use Rattle.invariant.specs.View.{viewOf}
+use Rattle.dsm_invariant.proofs.Events.{told}
 use Rattle.claims.specs.Entries.{dsmEntryOf}
 use Rattle.claims.proofs.Telling.{dsm-entry-tells}
-use Rattle.dsm_claims.proofs.Meets.{Tells}
-
-pub tells-of : (s : State) (t : ThreadId) → Tells (viewOf s) (t .0) (dsm.runs s t) (dsmEntryOf s t)
-tells-of s t = record {
-  thread = refl;
-  event = refl;
-  assigned = λ q. ap (λ (m : NodeId). m .0) (dsm-entry-tells s t .assigns q);
-  serves = λ q. ap (λ (m : NodeId). m .0) (dsm-entry-tells s t .serves q);
-}
 
 -- a Swap tells the node that Tail points to after it and, as given, the one that its thread then has in myPredNode
 pub swap-tells : (s : State) (t : ThreadId) → Is Swaps (dsmEntryOf s t)
     → (dsmEntryOf s t .node ≡ dsm.effect s t .tail) × (dsmEntryOf s t .given ≡ dsm.effect s t .thread .pred)
 swap-tells s t q =
-    let seven = eqb-true (number (dsm.runs s t)) 7 (sym (swaps-at-7 _ _ (dsm.runs s t)) ∙ eq-eqb _ (eventNumber Swaps) q) in
+    let seven = eqb-true (number (dsm.runs s t)) 7 (sym (told (viewOf s) (t .0) (dsm.runs s t) .swaps) ∙ eq-eqb _ (eventNumber Swaps) q) in
     let tells = dsm-entry-tells s t in
     let done = executed-at s t seven in
     (tells .assigns q ∙ sym (done .1), tells .gives q ∙ sym (done .0))

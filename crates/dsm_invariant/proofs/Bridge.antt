@@ -46,7 +46,7 @@ module _ (t : ℕ) (th : Thread) (nodes : List Node) (y : Node) (tail : NodeId) 
       let last : number l ≡ 2 = omega arith in by-line Left l last refl
 
 module _ (s : State) (t : ThreadId) {g : Ledger} (c : Control (s .n) (s .h) (viewOf s) g) (below : t .0 < s .n) where
-  runs-it : RunsNext (named s t) 28
+  pub runs-it : RunsNext (named s t) 28
   runs-it = runs-next (named s t) 28 (omega arith) (line-most c (t .0) below) (line-begun c (t .0) below)
 
   pub number-line : number (runs s t) ≡ line s t
@@ -54,13 +54,6 @@ module _ (s : State) (t : ThreadId) {g : Ledger} (c : Control (s .n) (s .h) (vie
 
   pub stands-so : named s t .line ≡ standsAt (number (runs s t))
   stands-so = rw number-line (runs-it .stands)
-
-  -- a thread that begins a call has a request left, and one whose entry is a blank has none
-  pub some-left : line s t ≡ 1 → named s t .begun < named s t .count
-  some-left = runs-it .begins
-
-  pub none-left : line s t ≡ 0 → named s t .count ≤ named s t .begun
-  none-left = runs-it .blank
 
   module _ (threads : length (s .threads) ≡ 16) (nodes : length (s .nodes) ≡ mostNodes) (small : s .n ≤ 16) (fine : nullMet s t ≡ false) where
     fine-so : meetsNull (named s t) (node s t) (number (runs s t)) ≡ false

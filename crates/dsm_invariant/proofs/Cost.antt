@@ -2,13 +2,15 @@
 use Prim.Native.Nat.{ℕ, _+_, _/_, _≤_, _<_}
 use native.Mathlib.Omega.{arith}
 use mathlib.Core.Path.{_≡_, refl, sym, _∙_, ap}
-use mathlib.Core.Bool.{Bool, true, cond, not, _&&_}
+use mathlib.Core.Bool.{Bool, cond, not, _&&_}
 use mathlib.Core.List.{List}
 use lib.Dec.{T, eqb, leb}
 use borrow.Author.Tests.{eq-eqb, ne-eqb, le-leb, lt-leb}
 use Rattle.object.specs.declared.Request.{Request}
 use Rattle.object.specs.declared.Answer.{Answer}
+use Rattle.object.specs.Paper.{within}
 use Rattle.object.proofs.Choice.{by-equal, by-order, either}
+use Rattle.object.proofs.Within.{within-range}
 use Rattle.machine.specs.declared.Method.the-variants.{DsmSynch}
 use Rattle.machine.specs.declared.NodeId.{NodeId}
 use Rattle.machine.specs.declared.Node.{Node}
@@ -50,13 +52,6 @@ remote-early n t copies th x l low =
     let Early : Line → Type 0 = λ l. referredBy DsmSynch n t copies (accesses th x l) .remote ≡ early t th (number l) in
     rw (le-leb (number l) 12 low) at (each-line (λ (l : Line). cond (leb (number l) 12) (Early l) Unit) (omega arith) l)
 
--- lines from i to j
-abbrev among : ℕ → ℕ → ℕ → Bool
-among i j k = leb i k && leb k j
-
-among-true : (i j k : ℕ) → i ≤ k → k ≤ j → among i j k ≡ true
-among-true i j k low high = rw (le-leb i k low, le-leb k j high)
-
 module _ {n h : ℕ} {v v′ : View} {g : Ledger} {t : ℕ} {l : Line} {request : Request} {answer : Answer} {cost : ℕ → ℕ} (copies : List ℕ) (small : n ≤ 16)
     (control : Control n h v g) (tip : Tip n v g) (before : Cost n v cost) (run : Does n h v v′ t l request answer) where
   stands-at : 2 ≤ number l → v .thread t .line ≡ number l
@@ -81,16 +76,16 @@ module _ {n h : ℕ} {v v′ : View} {g : Ledger} {t : ℕ} {l : Line} {request 
   -- a thread comes to lines 2 to 12 by lines 1 to 12, and what they make is what the price grows by
   comes-early : 2 ≤ v′ .thread t .line → v′ .thread t .line ≤ 12 → (1 ≤ number l) × (number l ≤ 12)
   comes-early low high =
-      let inside = among-true 2 12 (v′ .thread t .line) low high in (
-        rw inside at (each-run run (λ k event j. 1 ≤ cond (among 2 12 j) k 1) (omega arith) (omega arith)),
-        rw inside at (each-run run (λ k event j. cond (among 2 12 j) k 1 ≤ 12) (omega arith) (omega arith)),
+      let inside = within-range 2 (v′ .thread t .line) 12 .1 (low, high) in (
+        rw inside at (each-run run (λ k event j. 1 ≤ cond (within 2 j 12) k 1) (omega arith) (omega arith)),
+        rw inside at (each-run run (λ k event j. cond (within 2 j 12) k 1 ≤ 12) (omega arith) (omega arith)),
       )
 
   price-grows : 2 ≤ v′ .thread t .line → v′ .thread t .line ≤ 12
       → price (v′ .thread t .line) ≡ cond (eqb (number l) 1) 0 (price (number l)) + (oneIf (eqb (number l) 7) + oneIf (eqb (number l) 9))
   price-grows low high =
-      rw (among-true 2 12 (v′ .thread t .line) low high) at (each-run run
-      (λ k event j. cond (among 2 12 j) (price j) 0 ≡ cond (among 2 12 j) (cond (eqb k 1) 0 (price k) + (oneIf (eqb k 7) + oneIf (eqb k 9))) 0)
+      rw (within-range 2 (v′ .thread t .line) 12 .1 (low, high)) at (each-run run
+      (λ k event j. cond (within 2 j 12) (price j) 0 ≡ cond (within 2 j 12) (cond (eqb k 1) 0 (price k) + (oneIf (eqb k 7) + oneIf (eqb k 9))) 0)
       (omega arith) (omega arith))
 
   spent-before : 2 ≤ number l → number l ≤ 12 → cost t ≡ price (number l)
@@ -108,9 +103,9 @@ module _ {n h : ℕ} {v v′ : View} {g : Ledger} {t : ℕ} {l : Line} {request 
   -- and to 8 and 9 by 7 and 8: the Swap gave another's node
   foreign-after : 8 ≤ v′ .thread t .line → v′ .thread t .line ≤ 9 → ownerOf (v′ .thread t .pred) ≡ t → ⊥
   foreign-after low high e =
-      let inside = among-true 8 9 (v′ .thread t .line) low high in
-      let least : 7 ≤ number l = rw inside at (each-run run (λ k event j. 7 ≤ cond (among 8 9 j) k 7) (omega arith) (omega arith)) in
-      let most : number l ≤ 8 = rw inside at (each-run run (λ k event j. cond (among 8 9 j) k 8 ≤ 8) (omega arith) (omega arith)) in
+      let inside = within-range 8 (v′ .thread t .line) 9 .1 (low, high) in
+      let least : 7 ≤ number l = rw inside at (each-run run (λ k event j. 7 ≤ cond (within 8 j 9) k 7) (omega arith) (omega arith)) in
+      let most : number l ≤ 8 = rw inside at (each-run run (λ k event j. cond (within 8 j 9) k 8 ≤ 8) (omega arith) (omega arith)) in
       let pred = each-after run (λ m th. th .pred .0 ≡ cond (eqb (number m) 7) (v .tail .0) (cond (eqb (number m) 1) 255 (v .thread t .pred .0))) (omega arith) in
       by-equal (number l) 7
       (λ q. swap-gives control run tip small q (sym (ap (λ (m : ℕ). m / 2) (rw q at pred)) ∙ e))

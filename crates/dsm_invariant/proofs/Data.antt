@@ -4,7 +4,7 @@ use Prim.Native.Nat.{ℕ, suc, _+_, _-_, _≤_, _<_}
 use native.Mathlib.Nat.{add-zero}
 use native.Mathlib.Omega.{arith}
 use mathlib.Core.Path.{_≡_, refl, sym, ap, _∙_}
-use mathlib.Core.Bool.{true, false, cond, or-false}
+use mathlib.Core.Bool.{true, false, or-false}
 use mathlib.Core.List.{List, []}
 use lib.ListN.{length, getD}
 use lib.Seq.{getD-at}
@@ -36,45 +36,27 @@ use Rattle.invariant.specs.View.{View}
 use Rattle.invariant.specs.Serving.{openRequest, grown, Fed}
 use Rattle.invariant.proofs.Serving.{grown-length, grown-below, fed-fresh, fits-fresh, fits-kept, fed-grown, fed-applied, ret-next}
 use Rattle.invariant.proofs.Upd.{upd-same}
-use Rattle.dsm_invariant.specs.Stages.{idle, o2, o3, o4, o5, o6, o7, Stage, out, wait, combine, leave, nowhere, stageOf, queued}
+use Rattle.dsm_invariant.specs.Stages.{stageOf, queued}
 use Rattle.dsm_invariant.specs.Ledger.{Ledger, nodeAt, freshLedger, noted}
-use Rattle.dsm_invariant.specs.View.{first, goal, does, Does}
-use Rattle.dsm_invariant.specs.Control.{asked, Control}
-use Rattle.dsm_invariant.specs.Data.{eventAt, appliedBy, calling, CallData, Data}
-use Rattle.dsm_invariant.proofs.Basics.{thread-told}
+use Rattle.dsm_invariant.specs.View.{first, goal, eventAt, does, Does}
+use Rattle.dsm_invariant.specs.Control.{asked, Control, inQueue}
+use Rattle.dsm_invariant.specs.Data.{appliedBy, calling, CallData, Data}
+use Rattle.dsm_invariant.proofs.Basics.{thread-told, implied}
 use Rattle.dsm_invariant.proofs.Places.{from, placed, only-at}
 use Rattle.dsm_invariant.proofs.Frame.{field-same}
-use Rattle.dsm_invariant.proofs.Threads.{chosen, inQueue, lastLine, by-last, atTmp, points, at-below, my-home, room, serving, last as last-served}
+use Rattle.dsm_invariant.proofs.Threads.{chosen, lastLine, by-last, pointedAt, points, at-below, my-home, room, serving, last as last-served}
 use Rattle.dsm_invariant.proofs.Events.{told}
 use Rattle.dsm_invariant.proofs.Notes.{notes, at-kept}
 
 -- a call whose request is written has its node, and one in the queue has its request written
-asked-chosen : (s : Stage) → T (asked s) → T (chosen s)
-asked-chosen (out idle) q = absurd q
-asked-chosen (out o2) q = absurd q
-asked-chosen (out o3) q = absurd q
-asked-chosen (out o4) q = absurd q
-asked-chosen (out o5) q = absurd q
-asked-chosen (out o6) q = absurd q
-asked-chosen (out o7) q = tt
-asked-chosen (wait w) q = tt
-asked-chosen (combine c) q = tt
-asked-chosen (leave v) q = tt
-asked-chosen nowhere q = absurd q
+asked-chosen : (k : ℕ) → T (asked (stageOf k)) → T (chosen (stageOf k))
+asked-chosen = implied asked chosen refl
 
-queued-asked : (s : Stage) → T (queued s) → T (asked s)
-queued-asked (out o) q = absurd q
-queued-asked (wait w) q = tt
-queued-asked (combine c) q = tt
-queued-asked (leave v) q = tt
-queued-asked nowhere q = absurd q
+queued-asked : (k : ℕ) → T (queued (stageOf k)) → T (asked (stageOf k))
+queued-asked = implied queued asked refl
 
-queued-calling : (s : Stage) → T (queued s) → T (calling s)
-queued-calling (out o) q = absurd q
-queued-calling (wait w) q = tt
-queued-calling (combine c) q = tt
-queued-calling (leave v) q = tt
-queued-calling nowhere q = absurd q
+queued-calling : (k : ℕ) → T (queued (stageOf k)) → T (calling (stageOf k))
+queued-calling = implied queued calling refl
 
 -- a call goes on, with its node once its request is written
 record Stays (th th′ : Thread) : Type 0 where
@@ -94,7 +76,7 @@ module _ {n h : ℕ} {v : View} {g : Ledger} (c : Control n h v g) {requests : �
   seated-asks i low high =
       let s = c .seat i low high in
       let u = g .who i in
-      let stage = stageOf (v .thread u .line) in
+      let stage = v .thread u .line in
       let f = now .call u (s .who) in
       let job = ap (λ (j : ℕ). getD jobs j (Put 0)) (sym (s .at)) ∙ f .job (s .queued) in
       let node = ap (nodeAt g) (sym (s .at)) ∙ sym (placed c u (s .who) (s .queued)) in (
@@ -119,7 +101,7 @@ module _ {n h : ℕ} {v : View} {g : Ledger} (c : Control n h v g) {requests : �
         (λ q. returns q refl tt)
         (λ q. returns q refl tt)
       where
-        returns : {k : ℕ} → number l ≡ k → cond (eqb k 9) (v .thread t .pred .0) (cond (atTmp k) (v .thread t .tmp .0) (v .thread t .my .0)) ≡ v .thread t .my .0
+        returns : {k : ℕ} → number l ≡ k → pointedAt (v .thread t) k ≡ v .thread t .my .0
             → T (queued (stageOf (standsAt k))) → first v t l .ret ≡ Answered (getD answers (g .at t) Empty)
         returns {k} q home queue =
             ap (λ (m : ℕ). v .node m .ret) (points (v .thread t) l ∙ rw q home) ∙ now .call t below .replied (rw (stands, q) queue) (last-served c l below stands last)
@@ -180,13 +162,13 @@ module _ {n h : ℕ} {v : View} {g : Ledger} (c : Control n h v g) {requests : �
     CallAfter u = CallData kind jobs′ answers′ (openRequest requests v′ u) (g′ .at u) (g′ .a) (stageOf (v′ .thread u .line)) (v′ .node (v′ .thread u .my .0))
 
     swaps-after : length jobs′ ≡ g′ .s
-    swaps-after = rw (grown-length (sameEvent (eventAt v t l) Swaps) jobs request, told d .swaps, notes v t g l .s, now .swaps)
+    swaps-after = rw (grown-length (sameEvent (eventAt v t l) Swaps) jobs request, told v t l .swaps, notes v t g l .s, now .swaps)
 
     -- what is applied is the request after those applied, and the object knows it
     next-known : sameEvent (eventAt v t l) Applies ≡ true
         → (g .a < length jobs) × (knows kind (getD jobs (g .a) (Put 0)) ≡ true) × (first v t l .req ≡ Asked (getD jobs (g .a) (Put 0)))
     next-known e =
-        let q = eqb-true (number l) 16 (sym (told d .applies) ∙ e) in
+        let q = eqb-true (number l) 16 (sym (told v t l .applies) ∙ e) in
         let s = serves l (d .below) (d .stands) q in
         (omega (arith, now .swaps), seated-asks (g .a) (omega arith) (s .1) .1, served-asks l (d .below) (d .stands) q)
 
@@ -194,13 +176,13 @@ module _ {n h : ℕ} {v : View} {g : Ledger} (c : Control n h v g) {requests : �
     fed-after =
         let applies = sameEvent (eventAt v t l) Applies in
         let enough : g .a + oneIf applies ≤ length jobs = either (λ (k : ℕ). g .a + k ≤ length jobs) applies (λ e. omega (arith, next-known e .0)) (λ _. omega (arith, now .swaps, c .order)) in
-        rw (notes v t g l .a, ← told d .applies)
+        rw (notes v t g l .a, ← told v t l .applies)
         (fed-grown (fed-applied (now .fed) (eventAt v t l) (now .fits) next-known) (sameEvent (eventAt v t l) Swaps) enough request)
 
     -- the call of a thread u that goes on, by what its node then has
     call-after : (u : ℕ) → u < n → Stays (v .thread u) (v′ .thread u) → (u ≡ t → number l ≡ 7 → ⊥)
         → (T (asked (stageOf (v .thread u .line))) → v′ .node (v .thread u .my .0) .req ≡ v .node (v .thread u .my .0) .req)
-        → (T (queued (stageOf (v .thread u .line))) → g .at u < g′ .a → v′ .node (v .thread u .my .0) .ret ≡ Answered (getD answers′ (g .at u) Empty))
+        → (inQueue v u → g .at u < g′ .a → v′ .node (v .thread u .my .0) .ret ≡ Answered (getD answers′ (g .at u) Empty))
         → CallAfter u
     call-after u below s apart req ret =
         let f = now .call u below in
@@ -211,7 +193,7 @@ module _ {n h : ℕ} {v : View} {g : Ledger} (c : Control n h v g) {requests : �
               λ q.
               grown-below (sameEvent (eventAt v t l) Swaps) jobs request (g .at u) (Put 0) (omega (arith, now .swaps, at-below c u below (s .queued q)))
               ∙ f .job (s .queued q);
-          replied = λ q i. rw (s .my (queued-asked (stageOf (v′ .thread u .line)) q)) (ret (s .queued q) i);
+          replied = λ q i. rw (s .my (queued-asked (v′ .thread u .line) q)) (ret (s .queued q) i);
         })
 
     -- every thread's call, by what the nodes then have and by the thread's own
@@ -227,17 +209,13 @@ module _ {n h : ℕ} {v : View} {g : Ledger} (c : Control n h v g) {requests : �
       fits = fits-kept kind capacity (now .fits) (eventAt v t l) (first v t l .req);
     }
 
-    -- the nodes afterwards, by what the line does to the one that it writes
-    field-kept : {A : Type 0} (field : Node → A) → field (effect .node) ≡ field (v .node (goal v t l)) → (m : ℕ) → field (v′ .node m) ≡ field (v .node m)
-    field-kept = field-same c d
-
     -- a line that applies nothing and leaves ret leaves the answers
     ret-kept : eqb (number l) 16 ≡ false → effect .node .ret ≡ v .node (goal v t l) .ret
         → (u : ℕ) → u < n → inQueue v u → g .at u < g′ .a → v′ .node (v .thread u .my .0) .ret ≡ Answered (getD answers′ (g .at u) Empty)
     ret-kept other e u below q i =
-        let none = told d .applies ∙ other in
+        let none = told v t l .applies ∙ other in
         let same : g′ .a ≡ g .a = notes v t g l .a ∙ rw (other, add-zero) in
-        rw none (field-kept (λ (x : Node). x .ret) e _ ∙ now .call u below .replied q (omega arith))
+        rw none (field-same c d (λ (x : Node). x .ret) e _ ∙ now .call u below .replied q (omega arith))
 
     -- where it leaves req too, and is no Swap, and its thread's call goes on
     quiet : eqb (number l) 7 ≡ false → eqb (number l) 16 ≡ false
@@ -246,7 +224,7 @@ module _ {n h : ℕ} {v : View} {g : Ledger} (c : Control n h v g) {requests : �
         → Stays (v .thread t) (effect .thread)
         → After
     quiet no-swap none req ret stays =
-        let left : (m : ℕ) → v′ .node m .req ≡ v .node m .req = field-kept (λ (x : Node). x .req) req in
+        let left : (m : ℕ) → v′ .node m .req ≡ v .node m .req = field-same c d (λ (x : Node). x .req) req in
         data-after (λ u below e q. left _) (ret-kept none ret)
         (call-after t (d .below) (rw (d .mine) stays) (λ _ q. eqb-false (number l) 7 no-swap q) (λ _. left _) (ret-kept none ret t (d .below)))
 
@@ -259,7 +237,7 @@ module _ {n h : ℕ} {v : View} {g : Ledger} (c : Control n h v g) {requests : �
       my = λ q. absurd (before q);
       calling = λ _. rw (d .stands) begun;
       asked = λ q. absurd (before q);
-      queued = λ q. absurd (before (queued-asked (stageOf (effect .thread .line)) q));
+      queued = λ q. absurd (before (queued-asked (effect .thread .line) q));
     }
 
     in-queue : T (queued (from l)) → effect .thread .begun ≡ v .thread t .begun
@@ -270,8 +248,8 @@ module _ {n h : ℕ} {v : View} {g : Ledger} (c : Control n h v g) {requests : �
         record {
           begun = same;
           my = λ _. home;
-          calling = λ _. queued-calling (stageOf (v .thread t .line)) stood;
-          asked = λ _. queued-asked (stageOf (v .thread t .line)) stood;
+          calling = λ _. queued-calling (v .thread t .line) stood;
+          asked = λ _. queued-asked (v .thread t .line) stood;
           queued = λ _. stood;
         }
 
@@ -279,7 +257,7 @@ module _ {n h : ℕ} {v : View} {g : Ledger} (c : Control n h v g) {requests : �
   begin : {v′ : View} {t : ℕ} (d : Runs v′ t L1) → knows kind (requests t (v .thread t .begun)) ≡ true → After d
   begin {t} d knows-it =
       let next : v .thread t .begun + 1 - 1 ≡ v .thread t .begun = omega arith in
-      data-after d (λ u below e q. field-kept d (λ (x : Node). x .req) refl _) (ret-kept d refl refl)
+      data-after d (λ u below e q. field-same c d (λ (x : Node). x .req) refl _) (ret-kept d refl refl)
       (rw (d .mine, next) (record { known = λ _. knows-it; asked = absurd; job = absurd; replied = absurd }))
 
   -- line 6 writes the request into its thread's node, which no other thread has
@@ -288,7 +266,7 @@ module _ {n h : ℕ} {v : View} {g : Ledger} (c : Control n h v g) {requests : �
       let stood : T (calling (stageOf (v .thread t .line))) = rw (d .stands) tt in
       data-after d
       (λ u below e q. ap (λ (x : Node). x .req)
-      (d .elsewhere _ (λ m. e (homes-apart u t below (d .below) (asked-chosen (stageOf (v .thread u .line)) q) (rw (d .stands) tt) m))))
+      (d .elsewhere _ (λ m. e (homes-apart u t below (d .below) (asked-chosen (v .thread u .line) q) (rw (d .stands) tt) m))))
       (ret-kept d refl refl)
       (rw (d .mine, d .there) (record { known = λ _. now .call t (d .below) .known stood; asked = λ _. refl; job = absurd; replied = absurd }))
 
@@ -296,7 +274,7 @@ module _ {n h : ℕ} {v : View} {g : Ledger} (c : Control n h v g) {requests : �
   swap : {v′ : View} {t : ℕ} (d : Runs v′ t L7) → After d
   swap {t} d =
       let f = now .call t (d .below) in
-      let left = field-kept d (λ (x : Node). x .req) refl in
+      let left = field-same c d (λ (x : Node). x .req) refl in
       data-after d (λ u below e q. left _) (ret-kept d refl refl)
       (rw (d .mine, upd-same (g .at) t (g .s)) (record {
         known = λ _. f .known (rw (d .stands) tt);
@@ -317,7 +295,7 @@ module _ {n h : ℕ} {v : View} {g : Ledger} (c : Control n h v g) {requests : �
 
   serve : {v′ : View} {t : ℕ} (d : Runs v′ t L16) → After d
   serve {t} d =
-      let left = field-kept d (λ (x : Node). x .req) refl in
+      let left = field-same c d (λ (x : Node). x .req) refl in
       data-after d (λ u below e q. left _) (ret-served d)
       (call-after d t (d .below) (rw (d .mine) (in-queue d tt refl refl)) (λ _ q. omega arith) (λ _. left _) (ret-served d t (d .below)))
 

@@ -14,10 +14,10 @@ use Rattle.invariant.proofs.Serving.{field-left}
 use Rattle.dsm_invariant.specs.Stages.{Stage, out, idle, stageOf, queued}
 use Rattle.dsm_invariant.specs.Ledger.{Ledger, nodeAt, going}
 use Rattle.dsm_invariant.specs.View.{goal, does, Does}
-use Rattle.dsm_invariant.specs.Control.{Order, Tailed, empty, last, Link, Old, preparing, ThreadFacts, Seat, Control}
+use Rattle.dsm_invariant.specs.Control.{Order, Tailed, empty, last, Link, NodeFields, Old, preparing, ThreadFacts, Seat, Control}
 use Rattle.object.proofs.Choice.{by-equal}
 use Rattle.dsm_invariant.proofs.Places.{from, former-queued}
-use Rattle.dsm_invariant.proofs.Stable.{Grown, Rely, Fields, Kept, old-stable, facts-stable}
+use Rattle.dsm_invariant.proofs.Stable.{Grown, Rely, Kept, old-stable, facts-stable}
 
 module _ (g : Ledger) (tail : ℕ) (joined : ℕ → Bool) (a d r : ℕ) where
   -- Tail is told by s and b alone
@@ -75,7 +75,7 @@ module _ {n h : ℕ} {v v′ : View} {g : Ledger} {t : ℕ} {l : Line} {request 
         → ThreadFacts n h g′ t th (v′ .node (th .my .0))
         → Old g′ t (stageOf (th .line)) (th .toggle)
         → Others queued (λ u. Rely g g′ u)
-        → Others queued (λ u. Fields g′ (g .at u) (v′ .node (v .thread u .my .0)))
+        → Others queued (λ u. NodeFields g′ (g .at u) (v′ .node (v .thread u .my .0)))
         → Others preparing (λ u. Kept (v .node (v .thread u .my .0)) (v′ .node (v .thread u .my .0)))
         → ((i : ℕ) → i < g .s → a ≤ suc i → Link g′ i (v′ .node (nodeAt g i) .next .0))
         → Control n h v′ g′

@@ -13,17 +13,17 @@ use Rattle.machine.specs.Threads.{goes}
 use Rattle.invariant.specs.Ledger.{upd}
 use Rattle.invariant.specs.View.{View}
 use Rattle.dsm_invariant.specs.Stages.{out, idle, o2, wait, w8, w9, w10, w13, leave, v27, v28, queued}
-use Rattle.dsm_invariant.specs.Ledger.{Ledger, nodeNumber, nodeAt, noted}
+use Rattle.dsm_invariant.specs.Ledger.{Ledger, nodeNumber, nodeAt, withJoined, noted}
 use Rattle.dsm_invariant.specs.View.{Does}
 use Rattle.dsm_invariant.specs.Control.{none, right, Old, Pred, first, after, Gate, closed, turn, Gated, WaitRow, WaitFacts, Control}
 use Rattle.object.proofs.Choice.{by-equal, either}
-use Rattle.invariant.proofs.Upd.{upd-same, upd-other}
+use Rattle.invariant.proofs.Upd.{upd-same, upd-other, upd-more}
 use Rattle.invariant.proofs.Waits.{waits-free, waits-held}
 use Rattle.dsm_invariant.proofs.Basics.{toggled-twice}
 use Rattle.dsm_invariant.proofs.Places.{from, alone, placed, prepared-apart, places-apart, place-exists, known, inside, mine-old}
 use Rattle.dsm_invariant.proofs.Stable.{link-stable}
 use Rattle.dsm_invariant.proofs.Frame.{old-in, kept}
-use Rattle.dsm_invariant.proofs.Ways.{Joins, no-joins, withJoined, joins-grown, quiet, prepares, home, calm, moves, forks}
+use Rattle.dsm_invariant.proofs.Ways.{Joins, no-joins, joins-grown, quiet, prepares, home, calm, moves, forks}
 
 -- line 1 toggles: the earlier Swaps of an idle thread then have its other toggle
 toggled : (g : Ledger) (u toggle : ℕ) → Old g u (out idle) toggle → Old g u (out o2) (1 - toggle)
@@ -62,7 +62,7 @@ module _ {n h : ℕ} {v v′ : View} {g : Ledger} {t : ℕ} {request : Request} 
   -- the thread's position joins: its predecessor knows of it, or it is the first
   joins : {l : Line} → Does n h v v′ t l request answer → T (queued (from l)) → Joins n v g t (upd (g .joined) (g .at t) true)
   joins run q = record {
-    more = λ j e. by-equal j (g .at t) (λ z. rw z (upd-same (g .joined) (g .at t) true)) (λ z. upd-other _ _ _ j z ∙ e);
+    more = upd-more (g .joined) (g .at t);
     same = λ u k e p. upd-other _ _ _ _ (λ z. e (alone c u t k (run .below) p (inside c run q) z));
   }
 
@@ -107,7 +107,7 @@ module _ {n h : ℕ} {v v′ : View} {g : Ledger} {t : ℕ} {request : Request} 
       let f = known c run in
       forks c run refl (v .node (v .thread t .my .0) .wait) 10 11 refl tt refl tt tt
       (λ e x i. (i, f .1))
-      (λ e x i. let opened = sym (f .0 .wait) ∙ e in (i, search (arith, f)))
+      (λ e x i. let opened = sym (f .0 .fields .wait) ∙ e in (i, search (arith, f)))
 
   -- line 11: a completed call is released, another has the turn
   pub answers : Does n h v v′ t L11 request answer → Control n h v′ (noted v t g L11)
@@ -115,11 +115,11 @@ module _ {n h : ℕ} {v v′ : View} {g : Ledger} {t : ℕ} {request : Request} 
       let f = known c run in
       forks c run refl (v .node (v .thread t .my .0) .completed) 12 13 refl tt refl tt tt
       (λ e x i.
-      let done = ltb-true (g .at t) (g .d) (sym (f .0 .completed) ∙ e) in
+      let done = ltb-true (g .at t) (g .d) (sym (f .0 .fields .completed) ∙ e) in
       let released = waits-free (g .r) (g .b) (g .given) (g .at t) (f .1 .gate) (λ z. omega (arith, f .1 .even z, c .order)) in
       (i, search (arith, f)))
       (λ e x i.
-      let left = ltb-false (g .at t) (g .d) (sym (f .0 .completed) ∙ e) in
+      let left = ltb-false (g .at t) (g .d) (sym (f .0 .fields .completed) ∙ e) in
       let turn = waits-held (g .r) (g .b) (g .given) (g .at t) (f .1 .gate) (omega (arith, c .order)) in
       (i, search (arith, f)))
 

@@ -4,21 +4,22 @@ use native.Mathlib.Omega.{arith}
 use mathlib.Core.Path.{_≡_, refl, _∙_, ap₂}
 use mathlib.Core.Bool.{Bool, true, false, cond, _||_, _&&_}
 use lib.Dec.{eqb}
-use borrow.Author.Tests.{ne-eqb}
+use borrow.Author.Tests.{eqb-true, ne-eqb}
 use mathlib.Core.List.{_∷_}
 use Rattle.object.specs.Each.{Each}
 use Rattle.object.proofs.Choice.{by-equal, either}
 use Rattle.machine.specs.Fields.{isNull}
-use Rattle.dsm_synch.specs.Lines.{Line, printed, number, empties, L0}
+use Rattle.dsm_synch.specs.Lines.{Line, printed, number, L0}
 use Rattle.dsm_synch.proofs.Numbers.{each-line, by-line}
 use Rattle.step.specs.Entry.{oneIf}
 use Rattle.invariant.specs.View.{View}
-use Rattle.invariant.proofs.Upd.{upd-same, upd-other}
+use Rattle.invariant.proofs.Upd.{upd-same, upd-if}
+use Rattle.dsm_invariant.specs.View.{emptied}
 use Rattle.dsm_invariant.specs.Ledger.{Ledger, nodeNumber, nodeAt, counting, swapped, joining, noted}
 
 -- whether thread t's line k ends its turn: 26, and a 23 that sets Tail to null
 abbrev pub ending : View → ℕ → ℕ → Bool
-ending v t k = eqb k 26 || eqb k 23 && empties (v .tail) (v .thread t .tmp)
+ending v t k = eqb k 26 || eqb k 23 && emptied v t
 
 module _ (v : View) (t : ℕ) (g : Ledger) where
   -- what holds of the ledger after every line: 8 and 23 write by a test
@@ -26,13 +27,13 @@ module _ (v : View) (t : ℕ) (g : Ledger) where
       → Each (λ (l : Line). cond (eqb (number l) 8 || eqb (number l) 23) Unit (P (number l) (noted v t g l))) (L0 ∷ printed)
       → P 8 g
       × P 8 (joining v t g)
-      × (empties (v .tail) (v .thread t .tmp) ≡ true → P 23 (counting g (g .a) (g .d) (g .r) (g .a) (g .a) false))
-      × (empties (v .tail) (v .thread t .tmp) ≡ false → P 23 g)
+      × (emptied v t ≡ true → P 23 (counting g (g .a) (g .d) (g .r) (g .a) (g .a) false))
+      × (emptied v t ≡ false → P 23 g)
       → (l : Line) → P (number l) (noted v t g l)
   each-noted P each tested l =
       let At : Line → Type 0 = λ l. P (number l) (noted v t g l) in
       by-equal (number l) 8 (λ q. by-line At l q (either (P 8) (isNull (v .thread t .pred)) (λ _. tested .1) (λ _. tested .0))) λ p.
-      by-equal (number l) 23 (λ q. by-line At l q (either (P 23) (empties (v .tail) (v .thread t .tmp)) (tested .2) (tested .3))) λ q.
+      by-equal (number l) 23 (λ q. by-line At l q (either (P 23) (emptied v t) (tested .2) (tested .3))) λ q.
       rw (ne-eqb (number l) 8 p, ne-eqb (number l) 23 q) at (each-line (λ (l : Line). cond (eqb (number l) 8 || eqb (number l) 23) Unit (At l)) each l)
 
 -- thread t's line makes g into g′: it raises counts, and positions change at a Swap alone
@@ -62,15 +63,14 @@ module _ (v : View) (t : ℕ) (g : Ledger) (l : Line) where
   at-swap q = notes v t g l .at t ∙ rw q (upd-same (g .at) t _)
 
   pub at-kept : (u : ℕ) → (u ≡ t → number l ≡ 7 → ⊥) → noted v t g l .at u ≡ g .at u
-  at-kept u apart =
-      notes v t g l .at u ∙ by-equal (number l) 7 (λ q. rw q (upd-other (g .at) t _ u (λ e. apart e q))) (λ q. rw (ne-eqb (number l) 7 q))
+  at-kept u apart = notes v t g l .at u ∙ upd-if (eqb (number l) 7) (g .at) t _ u (λ q e. apart e (eqb-true (number l) 7 q))
 
   -- the nodes of the positions so far stay, and a Swap's is the one that its thread toggled to
   pub node-kept : (i : ℕ) → i < g .s → nodeAt (noted v t g l) i ≡ nodeAt g i
   node-kept i low =
       ap₂ nodeNumber
-      (notes v t g l .who i ∙ by-equal (number l) 7 (λ q. rw q (upd-other (g .who) (g .s) _ i (λ e. omega arith))) (λ q. rw (ne-eqb (number l) 7 q)))
-      (notes v t g l .bit i ∙ by-equal (number l) 7 (λ q. rw q (upd-other (g .bit) (g .s) _ i (λ e. omega arith))) (λ q. rw (ne-eqb (number l) 7 q)))
+      (notes v t g l .who i ∙ upd-if (eqb (number l) 7) (g .who) (g .s) _ i (λ q e. omega arith))
+      (notes v t g l .bit i ∙ upd-if (eqb (number l) 7) (g .bit) (g .s) _ i (λ q e. omega arith))
 
   pub node-new : number l ≡ 7 → nodeAt (noted v t g l) (g .s) ≡ nodeNumber t (v .thread t .toggle)
   node-new q =

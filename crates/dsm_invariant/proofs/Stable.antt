@@ -2,17 +2,17 @@
 use Prim.Native.Nat.{ℕ, suc, _≤_, _<_}
 use native.Mathlib.Omega.{arith}
 use mathlib.Core.Path.{_≡_, refl, sym, _∙_, ap₂}
-use mathlib.Core.Bool.{Bool, true, false, not}
-use lib.Dec.{T, ltb}
+use mathlib.Core.Bool.{true, false}
+use lib.Dec.{T}
+use lib.Ieee.Bits.{is-false}
 use Rattle.machine.specs.declared.Node.{Node}
 use Rattle.machine.specs.declared.Thread.{Thread}
 use Rattle.dsm_invariant.specs.Stages.{Stage, Out, idle, o2, o3, o4, o5, o6, o7, out, wait, combine, leave, nowhere, queued}
 use Rattle.dsm_invariant.specs.Ledger.{Ledger, nodeNumber, nodeAt}
 use Rattle.invariant.specs.Waits.{waits}
-use Rattle.dsm_invariant.specs.Control.{Link, none, right, In, Old, outRow, preparing, Even, Pred, first, after, Gate, arriving, behind, closed, opened, released, turn, Gated, WaitRow, waitRow, WaitFacts, CombineRow, combineRow, CombineFacts}
+use Rattle.dsm_invariant.specs.Control.{Link, none, right, NodeFields, In, Old, outRow, preparing, Even, Pred, first, after, Gate, arriving, behind, closed, opened, released, turn, Gated, WaitRow, waitRow, WaitFacts, CombineRow, combineRow, CombineFacts, Knows}
 use Rattle.object.proofs.Choice.{by-equal, by-order}
 use Rattle.invariant.proofs.Waits.{waits-below, waits-free}
-use Rattle.dsm_invariant.proofs.Places.{Knows}
 
 -- the counts of before
 pub record Still (g g′ : Ledger) : Type 0 where
@@ -41,11 +41,6 @@ pub record Rely (g g′ : Ledger) (u : ℕ) : Type 0 where
   pub even : g .at u ≡ g′ .b → (g .at u ≡ g .b → ⊥) → Even g′
   pub early : g .joined (g .at u) ≡ false → g .a ≤ g .at u → g′ .a ≤ g .at u
 
--- a node's wait and completed as the counts tell them of its position
-pub record Fields (g : Ledger) (i : ℕ) (x : Node) : Type 0 where
-  pub wait : x .wait ≡ waits (g .r) (g .b) (g .given) i
-  pub completed : x .completed ≡ ltb i (g .d)
-
 -- a node that is being prepared keeps what is written into it
 pub record Kept (x y : Node) : Type 0 where
   pub wait : y .wait ≡ x .wait
@@ -54,9 +49,6 @@ pub record Kept (x y : Node) : Type 0 where
 
 pub kept-same : {x y : Node} → y ≡ x → Kept x y
 kept-same e = rw e (record { wait = refl; completed = refl; next = λ z. z })
-
-pub fields-in : {g : Ledger} {u toggle my : ℕ} {x : Node} → In g u toggle my x → Fields g (g .at u) x
-fields-in f = record { wait = f .wait; completed = f .completed }
 
 -- while the counts stay, a thread relies on its position alone
 pub rely-still : {g g′ : Ledger} (u : ℕ) → Still g g′ → g′ .at u ≡ g .at u → g′ .joined (g .at u) ≡ g .joined (g .at u) → Rely g g′ u
@@ -98,14 +90,13 @@ module _ (g g′ : Ledger) (grown : Grown g g′) where
       low i k e = by-order i (g .s) (λ z. z) (λ z. absurd (fresh i z k e))
 
   module _ (u : ℕ) where
-    pub in-stable : (toggle my : ℕ) (x x′ : Node) → g′ .at u ≡ g .at u → Fields g′ (g .at u) x′ → In g u toggle my x → In g′ u toggle my x′
+    pub in-stable : (toggle my : ℕ) (x x′ : Node) → g′ .at u ≡ g .at u → NodeFields g′ (g .at u) x′ → In g u toggle my x → In g′ u toggle my x′
     in-stable toggle my x x′ at y f = record {
       below = omega (arith, at, f .below, grown .s);
       who = rw at (grown .who _ (f .below) ∙ f .who);
       bit = rw at (grown .bit _ (f .below) ∙ f .bit);
       home = f .home;
-      wait = rw at (y .wait);
-      completed = rw at (y .completed);
+      fields = rw at y;
     }
 
     module _ (rely : Rely g g′ u) where
@@ -138,14 +129,10 @@ module _ (g g′ : Ledger) (grown : Grown g g′) where
       wait-stable row pred served k f = record {
         none-served = f .none-served;
         joined = rely .joined ∙ f .joined;
-        early = λ q. rely .early (f .joined ∙ failed (row .joined) q) (f .early q);
+        early = λ q. rely .early (f .joined ∙ is-false (row .joined) q) (f .early q);
         even = even-stable (f .even);
         gate = gate-stable (row .gate) pred k (f .gate);
       }
-        where
-          failed : (b : Bool) → T (not b) → b ≡ false
-          failed true q = absurd q
-          failed false q = refl
 
       combine-stable : (row : CombineRow) (h tmp served : ℕ) → CombineFacts row h g (g .at u) tmp served → CombineFacts row h g′ (g .at u) tmp served
       combine-stable row h tmp served f =
@@ -165,7 +152,7 @@ module _ (g g′ : Ledger) (grown : Grown g g′) where
     -- one lemma for every stage: the thread keeps what it knows
     pub facts-stable : (n h : ℕ) (s : Stage) (th : Thread) (x x′ : Node)
         → (T (queued s) → Rely g g′ u)
-        → (T (queued s) → Fields g′ (g .at u) x′)
+        → (T (queued s) → NodeFields g′ (g .at u) x′)
         → (T (preparing s) → Kept x x′)
         → Knows n h g u s th x
         → Knows n h g′ u s th x′

@@ -18,7 +18,7 @@ use Rattle.object.proofs.Choice.{by-equal}
 use Rattle.invariant.proofs.Upd.{upd-same, upd-other}
 use Rattle.invariant.proofs.Waits.{waits-new}
 use Rattle.dsm_invariant.proofs.Places.{queued-in, known, mine-old}
-use Rattle.dsm_invariant.proofs.Stable.{Grown, kept-same, fields-in, rely-still, place-same, link-stable, old-stable, facts-stable}
+use Rattle.dsm_invariant.proofs.Stable.{Grown, kept-same, rely-still, place-same, link-stable, old-stable, facts-stable}
 use Rattle.dsm_invariant.proofs.Frame.{kept}
 
 module _ {n h : ℕ} {v v′ : View} {g : Ledger} {t : ℕ} {request : Request} {answer : Answer} (c : Control n h v g)
@@ -70,8 +70,10 @@ module _ {n h : ℕ} {v v′ : View} {g : Ledger} {t : ℕ} {request : Request} 
           who = rw at-mine who-last;
           bit = rw at-mine bit-last;
           home = f .chosen tt;
-          wait = f .wait tt ∙ rw at-mine (sym (waits-new (g .r) (g .b) (g .given) (g .s) (omega (arith, c .order)) (c .given)));
-          completed = f .completed tt ∙ rw at-mine (sym (le-ltb (g .s) (g .d) (omega (arith, c .order))));
+          fields = record {
+            wait = f .wait tt ∙ rw at-mine (sym (waits-new (g .r) (g .b) (g .given) (g .s) (omega (arith, c .order)) (c .given)));
+            completed = f .completed tt ∙ rw at-mine (sym (le-ltb (g .s) (g .d) (omega (arith, c .order))));
+          };
         },
         record {
           none-served = f .begun tt;
@@ -102,7 +104,7 @@ module _ {n h : ℕ} {v v′ : View} {g : Ledger} {t : ℕ} {request : Request} 
       (record { a = refl; d = refl; r = refl; b = refl; k = refl; given = refl })
       (upd-other _ _ _ u e)
       (upd-other _ _ _ _ (omega (arith, queued-in c u k q .below))))
-      (λ q. let f = fields-in (queued-in c u k q) in search f)
+      (λ q. let f = queued-in c u k q .fields in search f)
       (λ q. kept-same refl)
       (c .facts u k)
 

@@ -6,23 +6,23 @@ use mathlib.Core.Path.{_≡_, sym, _∙_, ap, subst}
 use mathlib.Core.Bool.{Bool, true, false, cond, not, _&&_, _||_, false≢true}
 use lib.Dec.{T, eqb, leb}
 use lib.ListN.{List·getD-eq-default}
-use borrow.Author.Tests.{eqb-true, eqb-false, eq-eqb, ne-eqb, lt-leb}
+use borrow.Author.Tests.{eqb-true, eq-eqb, ne-eqb, lt-leb}
 use Rattle.object.proofs.Choice.{by-equal, by-order, by-test, either}
 use Rattle.machine.specs.declared.Node.{Node}
 use Rattle.machine.specs.declared.Thread.{Thread}
 use Rattle.machine.specs.Fields.{isNull}
 use Rattle.machine.specs.Lines.{standsAt}
-use Rattle.dsm_synch.specs.Lines.{Line, number, empties, pointed, L26}
+use Rattle.dsm_synch.specs.Lines.{Line, number, pointed, L26}
 use Rattle.dsm_synch.specs.Effect.{meetsNull}
 use Rattle.dsm_synch.proofs.Null.{PointsToNode}
 use Rattle.dsm_synch.proofs.Numbers.{each-line, by-line}
 use Rattle.invariant.specs.View.{View}
 use Rattle.dsm_invariant.specs.Stages.{Stage, out, wait, combine, leave, nowhere, stages, stageOf, queued}
 use Rattle.dsm_invariant.specs.Ledger.{Ledger, nodeNumber, nodeAt}
-use Rattle.dsm_invariant.specs.View.{first, goal}
-use Rattle.dsm_invariant.specs.Control.{Link, Pred, first as pred-first, after, preparing, Control}
+use Rattle.dsm_invariant.specs.View.{first, goal, emptied}
+use Rattle.dsm_invariant.specs.Control.{Pred, first as pred-first, after, preparing, Knows, Control, inQueue}
 use Rattle.dsm_invariant.proofs.Basics.{number-range}
-use Rattle.dsm_invariant.proofs.Places.{from, Knows, facts-at, queued-in, alone, prepared-home, prepared-apart, place-range, linked}
+use Rattle.dsm_invariant.proofs.Places.{from, facts-at, queued-in, alone, prepared-home, prepared-apart, place-range, tmp-place, next-right}
 use Rattle.dsm_invariant.proofs.Notes.{ending}
 
 -- a thread in its turn, and one in the queue with no turn begun
@@ -51,9 +51,6 @@ late (combine c) = true
 late (leave v) = true
 late nowhere = false
 
-abbrev pub inQueue : View → ℕ → Type 0
-inQueue v u = T (queued (stageOf (v .thread u .line)))
-
 abbrev pub inTurn : View → ℕ → Type 0
 inTurn v u = T (combines (stageOf (v .thread u .line)))
 
@@ -69,15 +66,19 @@ by-last k last helped emptied gave =
 abbrev pub atTmp : ℕ → Bool
 atTmp k = leb 14 k && (leb k 27 && not (eqb k 24))
 
-pub points : (th : Thread) (l : Line) → pointed th l .0 ≡ cond (eqb (number l) 9) (th .pred .0) (cond (atTmp (number l)) (th .tmp .0) (th .my .0))
-points th = each-line (λ (l : Line). pointed th l .0 ≡ cond (eqb (number l) 9) (th .pred .0) (cond (atTmp (number l)) (th .tmp .0) (th .my .0))) (omega arith)
+-- the number of the node that line k points to
+abbrev pub pointedAt : Thread → ℕ → ℕ
+pointedAt th k = cond (eqb k 9) (th .pred .0) (cond (atTmp k) (th .tmp .0) (th .my .0))
+
+pub points : (th : Thread) (l : Line) → pointed th l .0 ≡ pointedAt th (number l)
+points th = each-line (λ (l : Line). pointed th l .0 ≡ pointedAt th (number l)) (omega arith)
 
 -- there its turn has begun, and at the others, from line 3 on, its node is chosen
 pub known-there : (l : Line) → T (cond (leb (number l) 2) true (cond (atTmp (number l)) (late (from l)) (chosen (from l))))
 known-there = each-line (λ (l : Line). T (cond (leb (number l) 2) true (cond (atTmp (number l)) (late (from l)) (chosen (from l))))) (omega arith)
 
 -- a turn ends with 26, or with a 23 whose CAS succeeds
-pub by-ending : {P : Type 0} (v : View) (t k : ℕ) → ending v t k ≡ true → (k ≡ 26 → P) → (k ≡ 23 → empties (v .tail) (v .thread t .tmp) ≡ true → P) → P
+pub by-ending : {P : Type 0} (v : View) (t k : ℕ) → ending v t k ≡ true → (k ≡ 26 → P) → (k ≡ 23 → emptied v t ≡ true → P) → P
 by-ending v t k over gave emptied =
     by-equal k 26 gave λ p. by-equal k 23 (λ q. emptied q (rw (ne-eqb k 26 p, eq-eqb k 23 q) at over))
     (λ q. absurd (false≢true (rw (ne-eqb k 26 p, ne-eqb k 23 q) at over)))
@@ -150,7 +151,7 @@ module _ {n h : ℕ} {v : View} {g : Ledger} (c : Control n h v g) where
       go : (s : Stage) → At u s → T (late s) → v .thread u .tmp .0 < 2 * n
       go (out o) f q = absurd q
       go (wait w) f q = absurd q
-      go (combine x) f q = rw (f .1 .serving) (place-range c (g .k) (f .1 .below))
+      go (combine x) f q = tmp-place c (f .1)
       go (leave x) f q = f .1 .range
       go nowhere f q = absurd q
 
@@ -158,13 +159,9 @@ module _ {n h : ℕ} {v : View} {g : Ledger} (c : Control n h v g) where
   pred-range i m low some (pred-first e p) = absurd (some p)
   pred-range i m low some (after j e p) = rw p (place-range c j (omega arith))
 
-  next-range : (i m : ℕ) → (m ≡ 255 → ⊥) → Link g i m → m < 2 * n
-  next-range i m some l = let (low, joined, is) = linked i some l in rw is (place-range c (suc i) low)
-
 -- the node that thread t's line writes, if it writes one, is one of the 2n
 module _ {n h : ℕ} {v : View} {g : Ledger} (c : Control n h v g) {t : ℕ} (l : Line) (below : t < n) (stands : v .thread t .line ≡ standsAt (number l)) where
-  written : (number l ≡ 26 → ⊥)
-      → goal v t l ≡ cond (eqb (number l) 9) (v .thread t .pred .0) (cond (atTmp (number l)) (v .thread t .tmp .0) (v .thread t .my .0))
+  written : (number l ≡ 26 → ⊥) → goal v t l ≡ pointedAt (v .thread t) (number l)
   written p = ap (λ (b : Bool). cond b (first v t l .next) (pointed (v .thread t) l) .0) (ne-eqb (number l) 26 p) ∙ points (v .thread t) l
 
   own-range : 2 < number l → cond (atTmp (number l)) (v .thread t .tmp .0) (v .thread t .my .0) < 2 * n
@@ -180,8 +177,7 @@ module _ {n h : ℕ} {v : View} {g : Ledger} (c : Control n h v g) {t : ℕ} (l 
 
   behind-range : v .thread t .line ≡ 26 → isNull (first v t L26 .next) ≡ false → goal v t L26 < 2 * n
   behind-range here some =
-      let f = facts-at c t 26 below here .1 in
-      next-range c (g .k) _ (eqb-false _ 255 some) (rw (← f .serving) at (c .link (g .k) (f .below) (omega (arith, f .applied))))
+      let (low, joined, is) = next-right c (facts-at c t 26 below here .1) some in rw is (place-range c (suc (g .k)) low)
 
   pub goal-range : meetsNull (v .thread t) (first v t l) (number l) ≡ false → 2 < number l → goal v t l < 2 * n
   goal-range fine above =

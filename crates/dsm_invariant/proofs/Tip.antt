@@ -20,12 +20,12 @@ use Rattle.invariant.proofs.Upd.{upd-same}
 use Rattle.dsm_invariant.specs.Stages.{stageOf, queued}
 use Rattle.dsm_invariant.specs.Ledger.{Ledger, nodeNumber, nodeAt, noted, freshLedger}
 use Rattle.dsm_invariant.specs.View.{first, behind, Does}
-use Rattle.dsm_invariant.specs.Control.{Tailed, empty, last, Seat, Control}
+use Rattle.dsm_invariant.specs.Control.{Tailed, empty, last, Seat, Control, inQueue}
 use Rattle.dsm_invariant.specs.Tip.{Tip}
-use Rattle.dsm_invariant.proofs.Places.{from, facts-at, linked}
+use Rattle.dsm_invariant.proofs.Places.{from, facts-at, linked, next-right}
 use Rattle.dsm_invariant.proofs.Notes.{ending, Notes, notes, at-swap, at-kept}
 use Rattle.dsm_invariant.proofs.Follows.{onto, each-run, line-after}
-use Rattle.dsm_invariant.proofs.Threads.{inQueue, inTurn, lastLine, by-last, by-ending, one-turn, known-at}
+use Rattle.dsm_invariant.proofs.Threads.{inTurn, lastLine, by-last, by-ending, one-turn, known-at}
 
 -- the owner of a thread's node
 pub owner : (u : ℕ) {x : ℕ} → x ≤ 1 → nodeNumber u x / 2 ≡ u
@@ -41,7 +41,7 @@ sees-two {h = h} {v} {g = g} {t} c run e =
     (λ goes.
     let f = facts-at c t 19 (run .below) (run .stands) .1 in
     let tests = both-fail (isNull (first v t L19 .next)) (isNull (behind v t L19 .next) || leb h (v .thread t .served)) goes in
-    let one = linked (g .k) (eqb-false _ 255 (tests .0)) (rw (← f .serving) at (c .link (g .k) (f .below) (omega (arith, f .applied)))) in
+    let one = next-right c f (tests .0) in
     let two : isNull (v .node (nodeAt g (suc (g .k))) .next) ≡ false =
     ap (λ (m : ℕ). isNull (v .node m .next)) (sym (one .2)) ∙ both-fail (isNull (behind v t L19 .next)) (leb h (v .thread t .served)) (tests .1) .0 in
     linked (suc (g .k)) (eqb-false _ 255 two) (c .link (suc (g .k)) (one .0) (omega (arith, f .applied))) .0)

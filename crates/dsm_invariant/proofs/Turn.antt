@@ -1,10 +1,10 @@
 -- Lines of the turn keep Control: 16 to 19, 21, 23 and 26. Assumes Control before the line.
-use Prim.Native.Nat.{ℕ, suc, _*_, _≤_, _<_}
+use Prim.Native.Nat.{ℕ, suc, _≤_, _<_}
 use native.Mathlib.Omega.{arith}
 use mathlib.Core.Path.{_≡_, refl, sym, _∙_, ap}
 use mathlib.Core.Bool.{Bool, true, false, cond, _||_}
 use lib.Dec.{leb}
-use borrow.Author.Tests.{eqb-true, eqb-false, leb-false, lt-ltb}
+use borrow.Author.Tests.{eqb-true, leb-false, lt-ltb}
 use Rattle.object.specs.declared.Request.{Request}
 use Rattle.object.specs.declared.Answer.{Answer}
 use Rattle.machine.specs.declared.NodeId.{NodeId}
@@ -12,13 +12,13 @@ use Rattle.machine.specs.Fields.{null, isNull}
 use Rattle.dsm_synch.specs.Lines.{L16, L17, L18, L19, L21, L23, L26}
 use Rattle.machine.specs.Threads.{goes}
 use Rattle.invariant.specs.View.{View}
-use Rattle.dsm_invariant.specs.Ledger.{Ledger, nodeAt, noted}
+use Rattle.dsm_invariant.specs.Ledger.{Ledger, noted}
 use Rattle.dsm_invariant.specs.View.{emptied, Does}
 use Rattle.invariant.specs.Waits.{waits}
 use Rattle.dsm_invariant.specs.Control.{Tailed, empty, last, CombineRow, CombineFacts, Control}
 use Rattle.object.proofs.Choice.{either, both-fail}
 use Rattle.invariant.proofs.Waits.{waits-below, waits-same, waits-turn, turn-neither}
-use Rattle.dsm_invariant.proofs.Places.{places-apart, place-range, place-exists, known, linked}
+use Rattle.dsm_invariant.proofs.Places.{places-apart, place-exists, known, tmp-place, next-right}
 use Rattle.dsm_invariant.proofs.Ways.{moves, forks, far, serves}
 
 -- the turn goes on from a released position: another that does not get it waits as before
@@ -28,13 +28,6 @@ waits-else g given i past apart =
 
 -- what a combiner knows of tmpNode, the node of position k
 module _ {n h : ℕ} {v : View} {g : Ledger} (c : Control n h v g) {row : CombineRow} {i tmp served : ℕ} (f : CombineFacts row h g i tmp served) where
-  tmp-range : tmp < 2 * n
-  tmp-range = rw (f .serving) (place-range c (g .k) (f .below))
-
-  -- its next, where it is not null, is the node of the position after it
-  pub next-right : isNull (v .node tmp .next) ≡ false → (suc (g .k) < g .s) × (g .joined (suc (g .k)) ≡ true) × (v .node tmp .next .0 ≡ nodeAt g (suc (g .k)))
-  next-right e = linked {g = g} (g .k) (eqb-false _ 255 e) (rw (f .serving) (c .link (g .k) (f .below) (c .order .one)))
-
   -- where Tail is tmpNode, nothing is left to serve
   all-served : n ≤ 16 → v .tail .0 ≡ tmp → Tailed g (v .tail .0) → g .s ≡ suc (g .k)
   all-served small e (empty z p) = absurd (place-exists c (g .k) small (f .below) (sym (f .serving) ∙ sym e ∙ p))
@@ -89,7 +82,7 @@ module _ {n h : ℕ} {v v′ : View} {g : Ledger} {t : ℕ} {request : Request} 
   passes run =
       let f = known c run .1 in
       let next = next-right c f (run .fine) in
-      let range = tmp-range c f in
+      let range = tmp-place c f in
       let free = sym (waits-turn (g .r) (g .a) true (suc (g .k)) (omega (arith, f .applied)) refl) in
       serves c run 27 refl tt tt f (suc (g .k)) (g .a) (g .d) (g .r) (g .a) (g .a) true
       (omega (arith, f, c .order, next)) (next .2) refl (λ y. search (y, free))
@@ -102,7 +95,7 @@ module _ {n h : ℕ} {v v′ : View} {g : Ledger} {t : ℕ} {request : Request} 
       let f = known c run .1 in
       either (λ g′. Control n h v′ g′) (emptied v t)
       (λ e.
-      let range = tmp-range c f in
+      let range = tmp-place c f in
       let all = all-served c f small (eqb-true (v .tail .0) (v .thread t .tmp .0) e) (c .tailed) in
       let past : g .b < g .r = omega (arith, f, c .order) in
       far c run 24 (ap (λ z. goes (v .thread t) (cond z 24 25)) e) tt tt f (g .k) (g .a) (g .d) (g .r) (g .a) (g .a) false

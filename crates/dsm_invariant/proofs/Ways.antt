@@ -11,18 +11,18 @@ use Rattle.machine.specs.declared.NodeId.{NodeId}
 use Rattle.machine.specs.declared.Node.{Node}
 use Rattle.machine.specs.declared.Thread.{Thread}
 use Rattle.dsm_synch.specs.Lines.{Line}
-use Rattle.machine.specs.Threads.{having, goes}
+use Rattle.machine.specs.Threads.{goes, withTmp, withServed}
 use Rattle.invariant.specs.View.{View}
 use Rattle.dsm_invariant.specs.Stages.{stageOf, queued}
-use Rattle.dsm_invariant.specs.Ledger.{Ledger, nodeNumber, nodeAt, going, counting}
+use Rattle.dsm_invariant.specs.Ledger.{Ledger, nodeNumber, nodeAt, counting, withJoined}
 use Rattle.dsm_invariant.specs.View.{goal, does, Does}
 use Rattle.invariant.specs.Waits.{waits}
-use Rattle.dsm_invariant.specs.Control.{Order, Tailed, Link, In, Old, preparing, Even, CombineRow, CombineFacts, ThreadFacts, Control}
+use Rattle.dsm_invariant.specs.Control.{Order, Tailed, Link, NodeFields, In, Old, preparing, Even, CombineRow, CombineFacts, ThreadFacts, Control, inQueue}
 use Rattle.object.proofs.Choice.{by-equal, by-test}
 use Rattle.invariant.proofs.Waits.{ltb-same}
 use Rattle.dsm_invariant.proofs.Basics.{thread-told}
 use Rattle.dsm_invariant.proofs.Places.{from, queued-in, alone, placed, only-at, prepared-home, prepared-apart, inside, mine-in, mine-old}
-use Rattle.dsm_invariant.proofs.Stable.{Grown, Fields, Kept, kept-same, fields-in, rely-still, link-stable, old-stable, in-stable}
+use Rattle.dsm_invariant.proofs.Stable.{Grown, Kept, kept-same, rely-still, link-stable, old-stable, in-stable}
 use Rattle.dsm_invariant.proofs.Frame.{Others, tailed-same, tailed-turn, old-in, old-out, field-same, kept, frame}
 
 -- wait and completed stay in every node
@@ -33,13 +33,10 @@ pub record Quiet (v v′ : View) : Type 0 where
 -- the positions that have joined the queue: none is taken back, and those of the other threads stay
 pub record Joins (n : ℕ) (v : View) (g : Ledger) (t : ℕ) (joined : ℕ → Bool) : Type 0 where
   pub more : (j : ℕ) → g .joined j ≡ true → joined j ≡ true
-  pub same : (u : ℕ) → u < n → (u ≡ t → ⊥) → T (queued (stageOf (v .thread u .line))) → joined (g .at u) ≡ g .joined (g .at u)
+  pub same : (u : ℕ) → u < n → (u ≡ t → ⊥) → inQueue v u → joined (g .at u) ≡ g .joined (g .at u)
 
 pub no-joins : {n : ℕ} {v : View} {g : Ledger} {t : ℕ} → Joins n v g t (g .joined)
 no-joins = record { more = λ j e. e; same = λ u k e q. refl }
-
-abbrev pub withJoined : Ledger → (ℕ → Bool) → Ledger
-withJoined g joined = going g joined (g .a) (g .d) (g .r) (g .b) (g .k) (g .given)
 
 pub joins-grown : {n : ℕ} {v : View} {g : Ledger} {t : ℕ} {joined : ℕ → Bool} → Joins n v g t joined → Grown g (withJoined g joined)
 joins-grown joins =
@@ -82,7 +79,7 @@ module _ {n h : ℕ} {v v′ : View} {g : Ledger} {t : ℕ} {l : Line} {request 
         → (T (queued (from l)) → g .a ≤ g .at t → T (queued (stageOf (th .line))))
         → ThreadFacts n h (withJoined g joined) t th (v′ .node (th .my .0))
         → Old (withJoined g joined) t (stageOf (th .line)) (th .toggle)
-        → Others c run queued (λ u. Fields (withJoined g joined) (g .at u) (v′ .node (v .thread u .my .0)))
+        → Others c run queued (λ u. NodeFields (withJoined g joined) (g .at u) (v′ .node (v .thread u .my .0)))
         → Others c run preparing (λ u. Kept (v .node (v .thread u .my .0)) (v′ .node (v .thread u .my .0)))
         → ((i : ℕ) → i < g .s → g .a ≤ suc i → Link (withJoined g joined) i (v′ .node (nodeAt g i) .next .0))
         → Control n h v′ (withJoined g joined)
@@ -109,7 +106,7 @@ module _ {n h : ℕ} {v v′ : View} {g : Ledger} {t : ℕ} {l : Line} {request 
         → Control n h v′ g
     prepares th after outside away former facts =
         still th after (g .joined) no-joins (λ q. absurd (outside q)) facts former
-        (λ u j e p. let f = queued-in c u j p in rw (others u j e (f .home)) (fields-in f))
+        (λ u j e p. let f = queued-in c u j p in rw (others u j e (f .home)) (f .fields))
         (λ u j e p. kept-same (others u j e (prepared-home c u j p)))
         (λ i lo hi. rw (away (nodeAt g i) (λ p z. prepared-apart c t i (run .below) (now p) lo hi (sym z))) (c .link i lo hi))
       where
@@ -136,10 +133,10 @@ module _ {n h : ℕ} {v v′ : View} {g : Ledger} {t : ℕ} {l : Line} {request 
 
     -- in the queue: the thread goes on to a line, with its node
     module _ (line : ℕ) {tmp : NodeId} {served : ℕ}
-        (after : does v t l h request answer .thread ≡ having (v .thread t) line (v .thread t .own) (v .thread t .cur) tmp (v .thread t .tmpnext) served (v .thread t .my) (v .thread t .pred))
+        (after : does v t l h request answer .thread ≡ withTmp (withServed (v .thread t) line served) line tmp)
         (in-queue : T (queued (from l))) where
       abbrev th : Thread
-      th = having (v .thread t) line (v .thread t .own) (v .thread t .cur) tmp (v .thread t .tmpnext) served (v .thread t .my) (v .thread t .pred)
+      th = withTmp (withServed (v .thread t) line served) line tmp
 
       -- a next at most is written
       pub home : (joined : ℕ → Bool)
@@ -159,8 +156,8 @@ module _ {n h : ℕ} {v v′ : View} {g : Ledger} {t : ℕ} {l : Line} {request 
           (λ u j e p. record { wait = calm .wait _; completed = calm .completed _; next = nexts u j e p })
           links
         where
-          fields : (u : ℕ) → u < n → T (queued (stageOf (v .thread u .line))) → Fields (withJoined g joined) (g .at u) (v′ .node (v .thread u .my .0))
-          fields u j p = let f = queued-in c u j p in record { wait = calm .wait _ ∙ f .wait; completed = calm .completed _ ∙ f .completed }
+          fields : (u : ℕ) → u < n → inQueue v u → NodeFields (withJoined g joined) (g .at u) (v′ .node (v .thread u .my .0))
+          fields u j p = let f = queued-in c u j p in record { wait = calm .wait _ ∙ f .fields .wait; completed = calm .completed _ ∙ f .fields .completed }
 
       -- nothing is written
       module _ (same : new ≡ old) where
@@ -203,19 +200,19 @@ module _ {n h : ℕ} {v v′ : View} {g : Ledger} {t : ℕ} {l : Line} {request 
 
   -- in the turn: the node of position j is written, and counts move
   module _ (line : ℕ) {tmp : NodeId}
-      (after : does v t l h request answer .thread ≡ having (v .thread t) line (v .thread t .own) (v .thread t .cur) tmp (v .thread t .tmpnext) (v .thread t .served) (v .thread t .my) (v .thread t .pred))
+      (after : does v t l h request answer .thread ≡ withTmp (v .thread t) line tmp)
       (in-queue : T (queued (from l))) (stays : T (queued (stageOf line))) {row : CombineRow}
       (turn : CombineFacts row h g (g .at t) (v .thread t .tmp .0) (v .thread t .served)) (j a d r b k : ℕ) (given : Bool) where
     abbrev g′ : Ledger
     g′ = counting g a d r b k given
 
     abbrev turned : Thread
-    turned = having (v .thread t) line (v .thread t .own) (v .thread t .cur) tmp (v .thread t .tmpnext) (v .thread t .served) (v .thread t .my) (v .thread t .pred)
+    turned = withTmp (v .thread t) line tmp
 
     module _ (counts : Counted g j a d r b k given)
         (at : goal v t l ≡ nodeAt g j)
         (nexts : new .next ≡ old .next)
-        (there : Fields g j old → Fields g′ j new)
+        (there : NodeFields g j old → NodeFields g′ j new)
         (else : (i : ℕ) → i < g .s → (i ≡ j → ⊥) → waits (g .r) (g .b) (g .given) i ≡ waits r b given i)
         (facts : (x : Node) → Mine g′ x → ThreadFacts n h g′ t turned x) where
       pub far : (T given → b < g .s) → Tailed g′ (v′ .tail .0) → Control n h v′ g′
@@ -247,17 +244,17 @@ module _ {n h : ℕ} {v v′ : View} {g : Ledger} {t : ℕ} {l : Line} {request 
           away m e = run .elsewhere m (λ z. e (z ∙ at))
 
           -- the thread at position j, if one is still there, sees the written node, the others theirs as it was
-          fields : (u : ℕ) → u < n → T (queued (stageOf (v .thread u .line))) → Fields g′ (g .at u) (v′ .node (v .thread u .my .0))
+          fields : (u : ℕ) → u < n → inQueue v u → NodeFields g′ (g .at u) (v′ .node (v .thread u .my .0))
           fields u s p =
               let f = queued-in c u s p in
               by-equal (g .at u) j
               (λ e.
               let z : v .thread u .my .0 ≡ goal v t l = placed c u s p ∙ ap (nodeAt g) e ∙ sym at in
-              rw (z, run .there, e) (there (rw (z, e) at (fields-in f))))
+              rw (z, run .there, e) (there (rw (z, e) at (f .fields))))
               (λ e. rw (away _ (λ z. e (only-at c u j s p (counts .place) (counts .window) z)))
               (record {
-                wait = f .wait ∙ else (g .at u) (f .below) e;
-                completed = f .completed ∙ ltb-same (g .at u) (g .d) d (counts .marked _ e) (counts .left _ e);
+                wait = f .fields .wait ∙ else (g .at u) (f .below) e;
+                completed = f .fields .completed ∙ ltb-same (g .at u) (g .d) d (counts .marked _ e) (counts .left _ e);
               }))
 
       -- Tail stays, and the turn is at a position

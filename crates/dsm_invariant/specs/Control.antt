@@ -28,14 +28,18 @@ pub data Link (g : Ledger) (i next : ℕ) : Type 0 where
   none : next ≡ 255 → Link g i next
   right : suc i < g .s → g .joined (suc i) ≡ true → next ≡ nodeAt g (suc i) → Link g i next
 
--- the open call of thread u in the queue: its position and node, whose wait and completed the counts tell
+-- a position's node: wait and completed as the counts tell them
+pub record NodeFields (g : Ledger) (i : ℕ) (x : Node) : Type 0 where
+  pub wait : x .wait ≡ waits (g .r) (g .b) (g .given) i
+  pub completed : x .completed ≡ ltb i (g .d)
+
+-- the open call of thread u in the queue: its position and node
 pub record In (g : Ledger) (u toggle my : ℕ) (x : Node) : Type 0 where
   pub below : g .at u < g .s
   pub who : g .who (g .at u) ≡ u
   pub bit : g .bit (g .at u) ≡ toggle
   pub home : my ≡ nodeNumber u toggle
-  pub wait : x .wait ≡ waits (g .r) (g .b) (g .given) (g .at u)
-  pub completed : x .completed ≡ ltb (g .at u) (g .d)
+  pub fields : NodeFields g (g .at u) x
 
 -- the toggle of a thread's earlier Swaps: the present one of an idle thread, else the other
 abbrev pub formerOut : Out → ℕ → ℕ
@@ -180,27 +184,28 @@ pub record CombineFacts (row : CombineRow) (h : ℕ) (g : Ledger) (i tmp served 
   pub room : served + row .room ≤ h
 
 -- the turn has ended (24, 27, 28)
-pub record LeaveFacts (n h : ℕ) (g : Ledger) (i tmp served : ℕ) : Type 0 where
+pub record LeaveFacts (n : ℕ) (g : Ledger) (i tmp : ℕ) : Type 0 where
   pub past : i < g .b
-  pub some : 0 < served
-  pub most : served ≤ h
   pub range : tmp < 2 * n
 
--- what thread u knows at a stage, of its variables and its node x
-abbrev pub Facts : ℕ → ℕ → Ledger → ℕ → Stage → ℕ → ℕ → ℕ → ℕ → ℕ → Node → Type 0
-Facts n h g u (out o) toggle my pred tmp served x = OutFacts (outRow o) u toggle my served x
-Facts n h g u (wait w) toggle my pred tmp served x = In g u toggle my x × WaitFacts (waitRow w) g (g .at u) pred served
-Facts n h g u (combine c) toggle my pred tmp served x = In g u toggle my x × CombineFacts (combineRow c) h g (g .at u) tmp served
-Facts n h g u (leave v) toggle my pred tmp served x = In g u toggle my x × LeaveFacts n h g (g .at u) tmp served
-Facts n h g u nowhere toggle my pred tmp served x = ⊥
+-- what thread u, th, knows at a stage, of its variables and its node x
+abbrev pub Knows : ℕ → ℕ → Ledger → ℕ → Stage → Thread → Node → Type 0
+Knows n h g u (out o) th x = OutFacts (outRow o) u (th .toggle) (th .my .0) (th .served) x
+Knows n h g u (wait w) th x = In g u (th .toggle) (th .my .0) x × WaitFacts (waitRow w) g (g .at u) (th .pred .0) (th .served)
+Knows n h g u (combine c) th x = In g u (th .toggle) (th .my .0) x × CombineFacts (combineRow c) h g (g .at u) (th .tmp .0) (th .served)
+Knows n h g u (leave v) th x = In g u (th .toggle) (th .my .0) x × LeaveFacts n g (g .at u) (th .tmp .0)
+Knows n h g u nowhere th x = ⊥
 
 abbrev pub ThreadFacts : ℕ → ℕ → Ledger → ℕ → Thread → Node → Type 0
-ThreadFacts n h g u th x = Facts n h g u (stageOf (th .line)) (th .toggle) (th .my .0) (th .pred .0) (th .tmp .0) (th .served) x
+ThreadFacts n h g u th x = Knows n h g u (stageOf (th .line)) th x
+
+abbrev pub inQueue : View → ℕ → Type 0
+inQueue v u = T (queued (stageOf (v .thread u .line)))
 
 -- a position that is not applied has its open call
 pub record Seat (n : ℕ) (v : View) (g : Ledger) (i : ℕ) : Type 0 where
   pub who : g .who i < n
-  pub queued : T (queued (stageOf (v .thread (g .who i) .line)))
+  pub queued : inQueue v (g .who i)
   pub at : g .at (g .who i) ≡ i
 
 -- a position is a thread's, with one of its two nodes

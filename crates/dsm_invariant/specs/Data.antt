@@ -16,23 +16,18 @@ use Rattle.object.specs.Apply.{knows}
 use Rattle.machine.specs.declared.Announced.the-variants.{Asked}
 use Rattle.machine.specs.declared.RetVal.the-variants.{Answered}
 use Rattle.machine.specs.declared.Node.{Node}
-use Rattle.machine.specs.declared.Event.{Event}
-use Rattle.dsm_synch.specs.Lines.{Line, eventIn}
+use Rattle.dsm_synch.specs.Lines.{Line}
 use Rattle.step.specs.Entry.{appliedAt}
 use Rattle.invariant.specs.View.{View}
 use Rattle.invariant.specs.Serving.{openRequest, Fed, ObjectFits}
 use Rattle.dsm_invariant.specs.Stages.{Stage, out, wait, combine, leave, nowhere, stageOf, queued}
 use Rattle.dsm_invariant.specs.Ledger.{Ledger}
-use Rattle.dsm_invariant.specs.View.{first, emptied}
+use Rattle.dsm_invariant.specs.View.{first, eventAt}
 use Rattle.dsm_invariant.specs.Control.{outRow, asked}
 
--- what the entry of thread t's line is, and what it does to the object
-module _ (v : View) (t : ℕ) (l : Line) where
-  abbrev pub eventAt : Event
-  eventAt = eventIn (first v t l) (emptied v t) l
-
-  abbrev pub appliedBy : Kind → ℕ → Object → Applied
-  appliedBy kind capacity ob = appliedAt eventAt kind capacity ob (first v t l .req)
+-- what thread t's line does to the object
+abbrev pub appliedBy : View → ℕ → Line → Kind → ℕ → Object → Applied
+appliedBy v t l kind capacity ob = appliedAt (eventAt v t l) kind capacity ob (first v t l .req)
 
 -- a call has begun and has not returned
 abbrev pub calling : Stage → Bool

@@ -39,6 +39,9 @@ going g joined a d r b k given =
 abbrev pub counting : Ledger → ℕ → ℕ → ℕ → ℕ → ℕ → Bool → Ledger
 counting g = going g (g .joined)
 
+abbrev pub withJoined : Ledger → (ℕ → Bool) → Ledger
+withJoined g joined = going g joined (g .a) (g .d) (g .r) (g .b) (g .k) (g .given)
+
 -- what thread t's line writes into the ledger
 module _ (v : View) (t : ℕ) (g : Ledger) where
   abbrev pub swapped : Ledger
@@ -57,7 +60,7 @@ module _ (v : View) (t : ℕ) (g : Ledger) where
   }
 
   abbrev pub joining : Ledger
-  joining = going g (upd (g .joined) (g .at t) true) (g .a) (g .d) (g .r) (g .b) (g .k) (g .given)
+  joining = withJoined g (upd (g .joined) (g .at t) true)
 
   abbrev pub noted : Line → Ledger
   noted L0 = g

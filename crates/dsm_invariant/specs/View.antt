@@ -6,8 +6,9 @@ use Rattle.object.specs.declared.Request.{Request}
 use Rattle.object.specs.declared.Answer.{Answer}
 use Rattle.machine.specs.declared.Node.{Node}
 use Rattle.machine.specs.declared.Effect.{Effect}
+use Rattle.machine.specs.declared.Event.{Event}
 use Rattle.machine.specs.Lines.{standsAt}
-use Rattle.dsm_synch.specs.Lines.{Line, number, empties, pointed, target}
+use Rattle.dsm_synch.specs.Lines.{Line, number, empties, pointed, target, eventIn}
 use Rattle.dsm_synch.specs.Effect.{meetsNull, executed}
 use Rattle.invariant.specs.View.{View}
 
@@ -26,6 +27,10 @@ module _ (v : View) (t : ℕ) (l : Line) where
   -- the number of the node that it writes
   abbrev pub goal : ℕ
   goal = target (v .thread t) first l .0
+
+  -- what its entry is
+  abbrev pub eventAt : Event
+  eventAt = eventIn first (emptied v t) l
 
   -- what the line does, by Algorithm 2
   abbrev pub does : ℕ → Request → Answer → Effect

@@ -1,5 +1,5 @@
 -- From lists to functions: what the entry of a thread does to a state is what its line does to the view. Assumes a sound state and a thread below n.
-use Prim.Native.Nat.{_≤_, _<_}
+use Prim.Native.Nat.{_<_}
 use native.Mathlib.Omega.{arith}
 use mathlib.Core.Path.{_≡_, refl}
 use lib.Seq.{getD-set-same, getD-set-other}
@@ -15,18 +15,11 @@ use Rattle.step.proofs.Soundness.{Sound}
 use Rattle.invariant.specs.View.{viewOf, Does}
 
 module _ (s : State) (t : ThreadId) (sound : Sound s) (below : t .0 < s .n) where
-  runs-it : RunsNext (named s t) 21
+  pub runs-it : RunsNext (named s t) 21
   runs-it = runs-line s t (sound .shape) (sound .range) below
 
   pub number-line : number (lineOf (line s t)) ≡ line s t
   number-line = number-of (line s t) (runs-it .printed)
-
-  -- a thread that begins a call has a request left, and one whose entry is a blank has none
-  pub some-left : line s t ≡ 1 → named s t .begun < named s t .count
-  some-left = runs-it .begins
-
-  pub none-left : line s t ≡ 0 → named s t .count ≤ named s t .begun
-  none-left = runs-it .blank
 
   pub does-of : Does (s .n) (s .h) (viewOf s) (viewOf (entered s t)) (t .0) (lineOf (line s t)) (request s t) (applied s t .answer)
   does-of = record {

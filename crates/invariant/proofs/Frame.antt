@@ -16,6 +16,7 @@ use Rattle.invariant.specs.Ledger.{Ledger}
 use Rattle.invariant.specs.View.{View, does, goal, Does}
 use Rattle.invariant.specs.Control.{holding, slot, slotOfThread, held, NodeFields, StageFacts, Queued, Order, Seat, Control}
 use Rattle.object.proofs.Choice.{by-equal}
+use Rattle.invariant.proofs.Serving.{field-left}
 use Rattle.invariant.proofs.Slots.{slot-thread, slot-same, atTurn, turn-queued}
 use Rattle.invariant.proofs.Waits.{waits-same, turn-same, ltb-same}
 use Rattle.invariant.proofs.Seats.{stage-at, holds, queued-slot, seats-apart, node-of, owner, whose, turn-at}
@@ -57,10 +58,7 @@ pub record Near (v v′ : View) (m : ℕ) (y : Node) : Type 0 where
 module _ {n h : ℕ} {v v′ : View} {t : ℕ} {l : Line} {request : Request} {answer : Answer} (run : Does n h v v′ t l request answer) where
   -- a line that writes nothing
   pub kept : does v t l h request answer .node ≡ v .node (goal v t l) → (m : ℕ) → Near v v′ m (v .node m)
-  kept same m = record { there = all m; away = λ k e. all k }
-    where
-      all : (k : ℕ) → v′ .node k ≡ v .node k
-      all k = by-equal k (goal v t l) (λ e. rw e (run .there ∙ same)) (run .elsewhere k)
+  kept same m = let all = field-left (λ (x : Node). x) (goal v t l) (run .there) (run .elsewhere) same in record { there = all m; away = λ k e. all k }
 
   pub wrote : Near v v′ (goal v t l) (does v t l h request answer .node)
   wrote = record { there = run .there; away = run .elsewhere }

@@ -16,8 +16,8 @@ use Rattle.invariant.specs.Stages.{queued}
 use Rattle.invariant.specs.Ledger.{Ledger, noted}
 use Rattle.invariant.specs.View.{View, Does}
 use Rattle.invariant.specs.Control.{holding, slot, slotOfThread, NodeFields, StageFacts, Control}
-use Rattle.object.proofs.Choice.{by-equal, by-order}
-use Rattle.invariant.proofs.Upd.{upd-same, upd-other}
+use Rattle.object.proofs.Choice.{by-order}
+use Rattle.invariant.proofs.Upd.{upd-same, upd-other, upd-more}
 use Rattle.invariant.proofs.Waits.{waits-below, waits-turn, waits-free, waits-held}
 use Rattle.invariant.proofs.Seats.{stage-at, known, seats-apart, fields-at, node-bound, linked-below}
 use Rattle.invariant.proofs.Frame.{no-links, kept, wrote, from, home, far}
@@ -47,7 +47,7 @@ module _ (n h : ℕ) (small : n ≤ 16) (some : 0 < h) (v v′ : View) (g : Ledg
       let k : T (queued (slot n v t .stage)) = rw (stage-at c t _ (run .below) (run .stands)) tt in
       home c run _ refl refl tt refl
       (record {
-        more = λ j e. by-equal j (g .at t) (λ z. rw (z, l)) (λ z. upd-other _ _ _ j z ∙ e);
+        more = upd-more (g .linked) (g .at t);
         same = λ u j e q. upd-other _ _ _ _ (λ z. e (seats-apart c u t j (omega (arith, run .below)) q k z));
       })
       (wrote run)

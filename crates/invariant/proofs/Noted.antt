@@ -10,7 +10,7 @@ use Rattle.step.specs.Entry.{oneIf}
 use Rattle.cc_lines.proofs.Numbers.{each-line}
 use Rattle.invariant.specs.Ledger.{Ledger, swapped, noted}
 use Rattle.object.proofs.Choice.{by-equal}
-use Rattle.invariant.proofs.Upd.{upd-same, upd-other}
+use Rattle.invariant.proofs.Upd.{upd-same, upd-other, upd-if}
 
 -- thread t's line k makes g into g′: it raises counts, and positions change at a Swap alone
 pub record Notes (n t own : ℕ) (g : Ledger) (k : ℕ) (g′ : Ledger) : Type 0 where
@@ -48,5 +48,4 @@ module _ (n t own : ℕ) (g : Ledger) (l : Line) where
 
   -- the nodes of the positions so far stay
   pub node-kept : (i : ℕ) → i ≤ g .s → noted n t own g l .node i ≡ g .node i
-  node-kept i low =
-      notes n t own g l .node i ∙ by-equal (number l) 5 (λ q. rw q (upd-other _ (suc (g .s)) _ i (λ e. omega arith))) (λ q. rw (ne-eqb (number l) 5 q))
+  node-kept i low = notes n t own g l .node i ∙ upd-if (eqb (number l) 5) (g .node) (suc (g .s)) _ i (λ q e. omega arith)

@@ -26,7 +26,6 @@ use Rattle.machine.specs.declared.Announced.{Announced}
 use Rattle.machine.specs.declared.Announced.the-variants.{Asked}
 use Rattle.machine.specs.declared.RetVal.{RetVal}
 use Rattle.machine.specs.declared.RetVal.the-variants.{Answered}
-use Rattle.machine.specs.declared.Node.{Node}
 use Rattle.machine.specs.declared.Event.{Event}
 use Rattle.machine.specs.declared.Event.the-variants.{Applies}
 use Rattle.machine.specs.Events.{sameEvent}
@@ -43,8 +42,8 @@ module _ {A : Type 0} (test : Bool) (xs : List A) (x : A) where
   pub grown-below : (i : ℕ) (d : A) → i < length xs → getD (grown test xs x) i d ≡ getD xs i d
   grown-below i d below = either (λ (l : List A). getD l i d ≡ getD xs i d) test (λ _. List·getD-append xs (x ∷ []) d i below) (λ _. refl)
 
--- a field that a line leaves at the node m that it writes, it leaves at every node
-pub field-left : {A : Type 0} (field : Node → A) (m : ℕ) {x : Node} {nodes nodes′ : ℕ → Node} → nodes′ m ≡ x → ((k : ℕ) → (k ≡ m → ⊥) → nodes′ k ≡ nodes k)
+-- a field that a line leaves at the node or thread m that it writes, it leaves at every one
+pub field-left : {A B : Type 0} (field : B → A) (m : ℕ) {x : B} {nodes nodes′ : ℕ → B} → nodes′ m ≡ x → ((k : ℕ) → (k ≡ m → ⊥) → nodes′ k ≡ nodes k)
     → field x ≡ field (nodes m) → (k : ℕ) → field (nodes′ k) ≡ field (nodes k)
 field-left field m there elsewhere e k = by-equal k m (λ i. rw i (ap field there ∙ e)) (λ i. ap field (elsewhere k i))
 

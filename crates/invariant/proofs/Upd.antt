@@ -1,8 +1,9 @@
 -- A function with one value changed. Assumes nothing.
 use Prim.Native.Nat.{ℕ}
 use mathlib.Core.Path.{_≡_, refl, sym, _∙_, subst}
+use mathlib.Core.Bool.{Bool, true, cond}
 use borrow.Author.Tests.{eq-eqb, ne-eqb}
-use Rattle.object.proofs.Choice.{by-equal}
+use Rattle.object.proofs.Choice.{by-equal, either}
 use Rattle.invariant.specs.Ledger.{upd}
 
 pub upd-same : {A : Type 0} (f : ℕ → A) (k : ℕ) (x : A) → upd f k x k ≡ x
@@ -12,6 +13,13 @@ upd-same f k x = rw (eq-eqb k k refl)
 pub upd-other : {A : Type 0} (f : ℕ → A) (k : ℕ) (x : A) (j : ℕ) → (j ≡ k → ⊥) → upd f k x j ≡ f j
 unfolding upd
 upd-other f k x j e = rw (ne-eqb j k e)
+
+-- changed by a test, elsewhere; and set to true, what was true stays
+pub upd-if : {A : Type 0} (test : Bool) (f : ℕ → A) (k : ℕ) (x : A) (j : ℕ) → (test ≡ true → j ≡ k → ⊥) → cond test (upd f k x j) (f j) ≡ f j
+upd-if test f k x j e = either (λ y. y ≡ f j) test (λ q. upd-other f k x j (e q)) (λ q. refl)
+
+pub upd-more : (f : ℕ → Bool) (k j : ℕ) → f j ≡ true → upd f k true j ≡ true
+upd-more f k j e = by-equal j k (λ z. rw z (upd-same f k true)) (λ z. upd-other f k true j z ∙ e)
 
 -- two numbers exchanged
 unfoldable pub exchange : ℕ → ℕ → ℕ → ℕ

@@ -54,7 +54,7 @@ use Rattle.claims.proofs.Meets.{numbers}
 use Rattle.claims.proofs.Run.{Going}
 use Rattle.claims.proofs.Seen.{seenOf}
 use Rattle.claims.proofs.Steps.{one-sound}
-use Rattle.claims.proofs.Told.{tells-of}
+use Rattle.claims.proofs.Telling.{tells-of}
 use Rattle.kept.specs.declared.Kept.{Kept}
 use Rattle.kept.specs.Kept.{placeOf, callAt, keptBy, keptOf, unkept, afterEntry, afterServing}
 
