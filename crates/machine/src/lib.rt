@@ -4,6 +4,7 @@ ghost use Rattle.machine.specs.Fields.{isNull, isEmptyReq, isEmptyRet};
 ghost use Rattle.machine.specs.Accesses.{pointedOf};
 ghost use Rattle.machine.specs.Events.{eventNumber, sameEvent};
 ghost use Rattle.machine.specs.Lines.{lineRun};
+ghost use Rattle.machine.specs.Methods.{methodNumber, methodOf, lastLine};
 use object::Answer;
 use object::Request;
 
@@ -115,6 +116,35 @@ pub struct Effect {
     pub thread: Thread,
     pub node: Node,
     pub tail: NodeId,
+}
+
+// The number of a method, and the method of a number.
+pub fn method_number(method: Method) -> u8
+    ensures { λ r. ⌜ r ≡ methodNumber method ⌝ }
+{
+    match method {
+        Method::CcSynch => 0,
+        Method::DsmSynch => 1,
+    }
+}
+
+pub fn method_of(number: u8) -> Method
+    ensures { λ r. ⌜ r ≡ methodOf number ⌝ }
+{
+    if number == 0 {
+        return Method::CcSynch;
+    }
+    Method::DsmSynch
+}
+
+// The last printed line of a method.
+pub fn last_line(method: Method) -> u8
+    ensures { λ r. ⌜ r ≡ lastLine method ⌝ }
+{
+    match method {
+        Method::CcSynch => 21,
+        Method::DsmSynch => 28,
+    }
 }
 
 pub fn is_null(node: NodeId) -> bool
