@@ -21,7 +21,8 @@ use Rattle.history.specs.Entries.{Entry, remoteIn}
 use Rattle.history.specs.Copies.{remoteMarks}
 use Rattle.history.specs.Terms.{countsOf}
 use Rattle.history.proofs.Sums.{Few, counts-fit}
-use Rattle.claims.specs.Entries.{entryBy, enteredBy}
+use Rattle.claims.specs.Entries.{entryBy}
+use Rattle.step.specs.ByMethod.{enteredBy}
 use Rattle.claims.proofs.Accesses.{accesses-few}
 
 -- the remote accesses of an entry are as many as the state counts
@@ -42,7 +43,7 @@ module _ (m : Method) (n t : ℕ) where
       omega (arith, at-most-one (not (atHand m copies t (located a))), remote-most (leftCopies m n t a copies) accesses)
 
 -- the marks of an entry and what the state counts, both of the entry's accesses
-marks-of : (m : Method) (s : State) (t : ThreadId) → entryBy m s t .remote ≡ remoteMarks m (s .n) (t .0) (s .copies) (entryBy m s t .accesses)
+pub marks-of : (m : Method) (s : State) (t : ThreadId) → entryBy m s t .remote ≡ remoteMarks m (s .n) (t .0) (s .copies) (entryBy m s t .accesses)
 marks-of CcSynch s t = refl
 marks-of DsmSynch s t = refl
 

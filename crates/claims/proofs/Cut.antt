@@ -15,10 +15,9 @@ use Rattle.machine.specs.declared.Method.{Method}
 use Rattle.machine.specs.declared.Method.the-variants.{CcSynch, DsmSynch}
 use Rattle.machine.specs.declared.ThreadId.{ThreadId}
 use Rattle.state.specs.declared.State.{State}
-use Rattle.step.specs.Entry.{entered}
-use Rattle.step.specs.DsmEntry as dsm
+use Rattle.step.specs.ByMethod.{enteredBy, nullMetBy}
 use Rattle.history.specs.Entries.{Entry, threadId}
-use Rattle.claims.specs.Entries.{entryBy, enteredBy, startBy, entriesFrom, stateAfter, meetsNoNull, entriesBy, cut}
+use Rattle.claims.specs.Entries.{entryBy, startBy, entriesFrom, stateAfter, meetsNoNull, entriesBy, cut}
 
 entries-cut : (m : Method) (s : State) (j : ℕ) (schedule : List ℕ) → entriesFrom m s (take j schedule) ≡ take j (entriesFrom m s schedule)
 unfolding entriesFrom
@@ -58,25 +57,22 @@ abbrev pub AllOk : Method → (State → ThreadId → Type 0) → State → List
 AllOk m Ok s [] = Unit
 AllOk m Ok s (t ∷ schedule) = Ok s (threadId t) × AllOk m Ok (enteredBy m s (threadId t)) schedule
 
--- of CC-Synch nothing is asked
-abbrev pub Always : State → ThreadId → Type 0
-Always s t = Unit
+-- that it meets no null, which no entry of CC-Synch does
+abbrev pub NoNull : Method → State → ThreadId → Type 0
+NoNull m s t = nullMetBy m s t ≡ false
 
-pub always : (s : State) (schedule : List ℕ) → AllOk CcSynch Always s schedule
-always s [] = tt
-always s (t ∷ schedule) = (tt, always (entered s (threadId t)) schedule)
-
--- of DSM-Synch that it meets no null
-abbrev pub NoNull : State → ThreadId → Type 0
-NoNull s t = dsm.nullMet s t ≡ false
-
-pub none-met : (s : State) (schedule : List ℕ) → meetsNoNull s schedule ≡ true → AllOk DsmSynch NoNull s schedule
+pub none-met : (m : Method) (s : State) (schedule : List ℕ) → meetsNoNull m s schedule ≡ true → AllOk m (NoNull m) s schedule
 unfolding meetsNoNull
-none-met s [] none = tt
-none-met s (t ∷ schedule) none =
+none-met m s [] none = tt
+none-met m s (t ∷ schedule) none =
     let now : ThreadId = threadId t in
-    let both = and-eq-true-iff (not (dsm.nullMet s now)) (meetsNoNull (dsm.entered s now) schedule) .0 none in
-    (not-true (dsm.nullMet s now) (both .0), none-met (dsm.entered s now) schedule (both .1))
+    let both = and-eq-true-iff (not (nullMetBy m s now)) (meetsNoNull m (enteredBy m s now) schedule) .0 none in
+    (not-true (nullMetBy m s now) (both .0), none-met m (enteredBy m s now) schedule (both .1))
+
+pub never-met : (s : State) (schedule : List ℕ) → meetsNoNull CcSynch s schedule ≡ true
+unfolding meetsNoNull
+never-met s [] = refl
+never-met s (t ∷ schedule) = never-met (enteredBy CcSynch s (threadId t)) schedule
 
 -- what holds of a state and of the entries before it, the latest first, is kept by every entry of a thread below n of which what is asked holds, while there are
 -- fewer than `most`

@@ -58,7 +58,7 @@ number-apart (row ∷ rows) (suc t) zero q r b c e = absurd (omega arith)
 number-apart (row ∷ rows) (suc t) (suc u) q r b c e = omega (arith, number-apart rows t u q r b c (omega arith))
 
 -- each Swap is of a call of its own, and that is one of the file's
-swaps-few : {m : Method} (f : Fields) {history : List Entry} {s a : ℕ} → Holds m f history s a → s ≤ sumOf length (f .rows)
+pub swaps-few : {m : Method} (f : Fields) {history : List Entry} {s a : ℕ} → Holds m f history s a → s ≤ sumOf length (f .rows)
 swaps-few f {history} {s} claim =
     let there = claim .of-the-file in
     omega (

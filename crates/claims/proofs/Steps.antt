@@ -21,7 +21,7 @@ use Rattle.step.proofs.Outcome.{goes-through-exactly}
 use Rattle.step.proofs.Soundness.{Sound, stays-sound}
 use Rattle.history.specs.Entries.{Entry, threadId}
 use Rattle.claims.specs.Entries.{entryOf, stateAfter}
-use Rattle.claims.proofs.Cut.{Always, Keeps}
+use Rattle.claims.proofs.Cut.{NoNull, Keeps}
 
 abbrev pub through : State → Stepped
 through s = record { refusal = 0; state = s }
@@ -40,7 +40,7 @@ module _ (s : State) (t : ThreadId) (sound : Sound s) (below : t .0 < s .n)
 -- what holds of a state and of the entries before it gives that the next step goes through, and every entry keeps it
 module _ (n most : ℕ) (P : State → List Entry → Type 0)
     (goes : (s : State) (past : List Entry) (t : ThreadId) → t .0 < n → length past < most → P s past → stepOf s t ≡ through (entered s t))
-    (keeps : Keeps CcSynch n most Always P) where
+    (keeps : Keeps CcSynch n most (NoNull CcSynch) P) where
   pub steps-fold : (s : State) (past : List Entry) (schedule : List ℕ) → Each (λ t. t < n) schedule → length past + length schedule ≤ most
       → P s past → stepsOf s schedule ≡ through (stateAfter CcSynch s schedule)
   unfolding onwardOver stateAfter
@@ -48,4 +48,4 @@ module _ (n most : ℕ) (P : State → List Entry → Type 0)
   steps-fold s past (t ∷ schedule) each few p =
       let now : ThreadId = threadId t in
       ap (λ (r : Stepped). onwardOver r schedule) (goes s past now (each .0) (omega arith) p)
-      ∙ steps-fold (entered s now) (entryOf s now ∷ past) schedule (each .1) (omega arith) (keeps s past now (each .0) (omega arith) tt p)
+      ∙ steps-fold (entered s now) (entryOf s now ∷ past) schedule (each .1) (omega arith) (keeps s past now (each .0) (omega arith) refl p)

@@ -27,7 +27,7 @@ use Rattle.claims.specs.Claims.{Claimed, Demand3Of}
 use Rattle.claims.proofs.Chronicle.{asks, chronicle-fresh}
 use Rattle.claims.proofs.CopiesSaid.{copies-fresh}
 use Rattle.claims.proofs.Counted.{next-fits}
-use Rattle.claims.proofs.Cut.{Always, always, cut-in-range}
+use Rattle.claims.proofs.Cut.{NoNull, none-met, never-met, cut-in-range}
 use Rattle.claims.proofs.Demand.{demand-3-from}
 use Rattle.claims.proofs.Layers.{Layers, Paid, chronicled, stays, layers-next}
 use Rattle.claims.proofs.Run.{Going, going-start, goes-on, run-keeps}
@@ -37,7 +37,7 @@ use Rattle.claims.proofs.Steps.{through, one-step, steps-fold}
 
 module _ (f : Fields) (fits : InRange f) where
   -- the fresh machine has the invariant
-  layers-start : Layers f (startOf f) []
+  pub layers-start : Layers f (startOf f) []
   layers-start =
       let n = f .head .n in
       let v = viewOf (startOf f) in
@@ -59,14 +59,14 @@ module _ (f : Fields) (fits : InRange f) where
       }
 
   -- every entry keeps it
-  layers-kept : (s : State) (past : List Entry) (t : ThreadId) → t .0 < s .n → length past < 32768 → Always s t → Going CcSynch f s past → Layers f s past
+  layers-kept : (s : State) (past : List Entry) (t : ThreadId) → t .0 < s .n → length past < 32768 → NoNull CcSynch s t → Going CcSynch f s past → Layers f s past
       → Layers f (entered s t) (entryOf s t ∷ past)
   layers-kept s past t below short ok going now = layers-next f fits s past t below going now short
 
   -- and the machine after j entries has it
   pub run-layers : (j : ℕ) → Going CcSynch f (stateAfter CcSynch (startOf f) (take j (f .schedule))) (reverse (take j (entriesOf f)))
       × Layers f (stateAfter CcSynch (startOf f) (take j (f .schedule))) (reverse (take j (entriesOf f)))
-  run-layers j = run-keeps CcSynch f fits Always (Layers f) layers-start layers-kept j (always (startOf f) (take j (f .schedule)))
+  run-layers j = run-keeps CcSynch f fits (NoNull CcSynch) (Layers f) layers-start layers-kept j (none-met CcSynch (startOf f) (take j (f .schedule)) (never-met (startOf f) (take j (f .schedule))))
 
   -- no step is refused
   goes : (s : State) (past : List Entry) (t : ThreadId) → t .0 < f .head .n → length past < 32768 → Going CcSynch f s past × Layers f s past
@@ -78,7 +78,7 @@ module _ (f : Fields) (fits : InRange f) where
   run-steps : (j : ℕ) → stepsOf (startOf f) (take j (f .schedule)) ≡ through (stateAfter CcSynch (startOf f) (take j (f .schedule)))
   run-steps j =
       let fits′ = cut-in-range f j fits in
-      steps-fold (f .head .n) 32768 _ goes (goes-on CcSynch f fits Always (Layers f) layers-start layers-kept) (startOf f) [] (take j (f .schedule))
+      steps-fold (f .head .n) 32768 _ goes (goes-on CcSynch f fits (NoNull CcSynch) (Layers f) layers-start layers-kept) (startOf f) [] (take j (f .schedule))
       (fits′ .schedule) (omega (arith, fits′ .entries)) (going-start CcSynch f, layers-start)
 
   pub demand-3 : Demand3Of f

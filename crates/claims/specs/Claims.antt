@@ -229,4 +229,4 @@ Demand3Of f = (j : ℕ) → Demand3At CcSynch f j
 
 -- the same of DSM-Synch, for every j such that none of the first j entries meets null: document 02, No. 6, "for every run up to such an entry"
 abbrev pub DsmDemand3Of : Fields → Type 0
-DsmDemand3Of f = (j : ℕ) → meetsNoNull (startBy DsmSynch f) (take j (f .schedule)) ≡ true → Demand3At DsmSynch f j
+DsmDemand3Of f = (j : ℕ) → meetsNoNull DsmSynch (startBy DsmSynch f) (take j (f .schedule)) ≡ true → Demand3At DsmSynch f j

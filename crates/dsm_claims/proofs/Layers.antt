@@ -85,7 +85,7 @@ module _ (f : Fields) (fits : InRange f) (s : State) (past : List Entry) (t : Th
   abbrev l : Line
   l = dsm.runs s t
 
-  number-l : number l ≡ line s t
+  pub number-l : number l ≡ line s t
   number-l = number-line s t (now .control) below
 
   few : s .n ≤ 16
@@ -118,17 +118,17 @@ module _ (f : Fields) (fits : InRange f) (s : State) (past : List Entry) (t : Th
     abbrev next : Ledger
     next = noted (viewOf s) (t .0) (now .ledger) l
 
-    does : Does (s .n) (s .h) (viewOf s) (viewOf after) (t .0) l (request s t) (dsm.applied s t .answer)
+    pub does : Does (s .n) (s .h) (viewOf s) (viewOf after) (t .0) l (request s t) (dsm.applied s t .answer)
     does = does-of s t (now .control) below (now .shape .threads) (now .shape .nodes) few fine
 
-    tells : Told (viewOf s) (t .0) (number l) (e .event)
+    pub tells : Told (viewOf s) (t .0) (number l) (e .event)
     tells = by (now .control) does (dsm-tells-of s t)
 
     -- the entry moves as a history asks
-    moved : Moves (f .head .n) (f .head .h) (seenOf (viewOf s)) (seenOf (viewOf after)) (positionsOf (now .ledger)) (positionsOf next) (t .0) e
+    pub moved : Moves (f .head .n) (f .head .h) (seenOf (viewOf s)) (seenOf (viewOf after)) (positionsOf (now .ledger)) (positionsOf next) (t .0) e
     moved = rw (← going .n, ← going .h) (moves (now .control) does (dsm-tells-of s t))
 
-    here : (event : Event) {k : ℕ} → is event e ≡ eqb (number l) k → Is event e → number l ≡ k
+    pub here : (event : Event) {k : ℕ} → is event e ≡ eqb (number l) k → Is event e → number l ≡ k
     here = at-line (now .control) does (dsm-tells-of s t)
 
     -- a call that begins has a request of the file, which the object knows

@@ -24,7 +24,7 @@ marked-runs = refl
 
 -- whether no entry of a run meets null
 abbrev fine : Fields → Bool
-fine f = meetsNoNull (startBy DsmSynch f) (f .schedule)
+fine f = meetsNoNull DsmSynch (startBy DsmSynch f) (f .schedule)
 
 pub met-nowhere : map (λ (m : Marked). fine (m .fields)) markedRuns ≡ map (λ (m : Marked). true) markedRuns
 unfolding meetsNoNull markedRuns

@@ -30,7 +30,7 @@ use Rattle.dsm_claims.proofs.Layers.{Paid, Layers, null-alone, layers-n
 use Rattle.dsm_claims.proofs.Seen.{phaseOf, seenOf, positionsOf, idle-line}
 
 -- as the claim needs it: what a call that another served has cost is what is claimed, since no Swap gives its thread's other node
-chronicled : (f : Fields) (s : State) (past : List Entry) → Going DsmSynch f s past → Layers f s past → Chronicled Paid DsmSynch f s past
+pub chronicled : (f : Fields) (s : State) (past : List Entry) → Going DsmSynch f s past → Layers f s past → Chronicled Paid DsmSynch f s past
 chronicled f s past going now = record {
   phase = phaseOf;
   positions = positionsOf (now .ledger);
@@ -54,7 +54,7 @@ module _ (f : Fields) (fits : InRange f) where
     tail = refl;
   }
 
-  layers-start : Layers f (startBy DsmSynch f) []
+  pub layers-start : Layers f (startBy DsmSynch f) []
   layers-start =
       let n = f .head .n in
       let v = viewOf (startBy DsmSynch f) in
@@ -77,12 +77,12 @@ module _ (f : Fields) (fits : InRange f) where
       }
 
   -- every entry that meets no null keeps the invariant, so the machine after j such entries has it
-  run-layers : (j : ℕ) → meetsNoNull (startBy DsmSynch f) (take j (f .schedule)) ≡ true
+  run-layers : (j : ℕ) → meetsNoNull DsmSynch (startBy DsmSynch f) (take j (f .schedule)) ≡ true
       → Going DsmSynch f (stateAfter DsmSynch (startBy DsmSynch f) (take j (f .schedule))) (reverse (take j (entriesBy DsmSynch f)))
       × Layers f (stateAfter DsmSynch (startBy DsmSynch f) (take j (f .schedule))) (reverse (take j (entriesBy DsmSynch f)))
   run-layers j none =
-      run-keeps DsmSynch f fits NoNull (Layers f) layers-start (λ s past t below short fine going now. layers-next f fits s past t below going now fine) j
-      (none-met (startBy DsmSynch f) (take j (f .schedule)) none)
+      run-keeps DsmSynch f fits (NoNull DsmSynch) (Layers f) layers-start (λ s past t below short fine going now. layers-next f fits s past t below going now fine) j
+      (none-met DsmSynch (startBy DsmSynch f) (take j (f .schedule)) none)
 
   pub dsm-demand-3 : DsmDemand3Of f
   dsm-demand-3 j none =

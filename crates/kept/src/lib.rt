@@ -2,7 +2,7 @@
 ghost use Prim.Native.Nat.{_%_};
 ghost use mathlib.Core.Path.{_≡_};
 ghost use mathlib.Core.Bool.{cond};
-ghost use lib.ListN.{set};
+ghost use lib.ListN.{getD, set};
 ghost use Rattle.machine.specs.Events.{sameEvent};
 ghost use Rattle.kept.specs.Kept.{unkept, afterEntry, afterServing};
 use machine::Event;
@@ -88,6 +88,17 @@ pub fn after_serving(kept: Kept, serves: bool, answer: Answer, server: ThreadId,
         };
     }
     kept
+}
+
+// The place of the call that a node is given to; past the nodes, where no node is given, 0.
+pub fn given_at(given: &[u16], node: NodeId) -> u16
+    ensures { λ r. ⌜ r ≡ getD (now (given .entry)) (node .0) 0 ⌝ }
+{
+    let m = node.0 as usize;
+    if m < given.len() {
+        return given[m];
+    }
+    0
 }
 
 // The place of the call that the entry serves, the one that the node was given to last; where it serves none that of its own call, which stays.

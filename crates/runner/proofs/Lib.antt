@@ -1,3 +1,4 @@
+pub mod Invariant
 pub mod Playing
 pub mod Quiet
 pub mod Running

@@ -12,32 +12,20 @@ use lib.Dec.{eqb}
 use borrow.Author.Tests.{eq-eqb, ne-eqb}
 use Rattle.bench_file.specs.Layout.{Fields}
 use Rattle.bench_file.specs.Bytes.{InRange}
-use Rattle.machine.specs.declared.Method.the-variants.{CcSynch}
+use Rattle.machine.specs.declared.Method.{Method}
 use Rattle.machine.specs.declared.ThreadId.{ThreadId}
-use Rattle.machine.specs.declared.NodeId.{NodeId}
-use Rattle.machine.specs.declared.Node.{Node}
-use Rattle.machine.specs.declared.Thread.{Thread}
 use Rattle.machine.specs.declared.RetVal.{RetVal}
 use Rattle.machine.specs.declared.RetVal.the-variants.{NoAnswer, Answered}
 use Rattle.machine.specs.declared.Event.{Event}
 use Rattle.machine.specs.declared.Event.the-variants.{Blank, CallBegins, Swaps, TurnBegins, Applies, Returns}
-use Rattle.machine.specs.Accesses.{Access, accessesOf}
-use Rattle.machine.specs.Events.{eventNumber, sameEvent}
 use Rattle.machine.specs.Sizes.{mostCalls, mostNodes}
-use Rattle.cc_lines.specs.Lines.{Line, lineOf, rowOf, eventIn}
-use Rattle.copies.specs.Remote.{referred}
 use Rattle.state.specs.declared.Counts.{Counts}
 use Rattle.state.specs.declared.State.{State}
-use Rattle.state.proofs.RangeFacts.{state-fits}
-use Rattle.step.specs.Entry.{line, event, target, node, applied, effect, accesses, references, entered}
-use Rattle.cc_lines.proofs.Numbers.{by-line}
-use Rattle.step.proofs.Outcome.{begun-few, target-in-range}
-use Rattle.invariant.specs.View.{viewOf}
-use Rattle.invariant.proofs.Bridge.{does-of}
+use Rattle.step.specs.ByMethod.{pointsToBy, appliedBy, effectBy}
 use Rattle.object.specs.Each.{Each}
 use Rattle.object.proofs.Choice.{by-equal}
 use Rattle.object.proofs.Each.{each-map}
-use Rattle.history.specs.Entries.{Entry, threadId, is, Is, howMany}
+use Rattle.history.specs.Entries.{Entry, threadId, is, Is, howMany, remoteIn}
 use Rattle.history.specs.Terms.{Call, Serving, Shown, noThread, noCall, noTurn, callOf, same, swapOrder, callAssigned, turnOf, servingOf, servings, costOf, numberOf, beganAt, returnedAt, shown, unshown, shownOf}
 use Rattle.history.specs.History.{nodeId, lastOf, Swapped}
 use Rattle.history.proofs.OfCall.{call, same-itself, not-same, blank-of-none, not-of, is-of, left, added}
@@ -46,16 +34,13 @@ use Rattle.history.proofs.Shown.{shown-none}
 use Rattle.history.proofs.Sums.{one-each, tests-few, cost-fits}
 use Rattle.history.proofs.Swaps.{of-last, serves-next}
 use Rattle.history.proofs.Told.{is-so, is-not, by-event}
-use Rattle.claims.specs.Entries.{entryOf, filled}
+use Rattle.claims.specs.Entries.{entryBy, filled}
 use Rattle.claims.proofs.Filled.{set-filled}
-use Rattle.claims.proofs.Counted.{remote-ones, counted-next, next-fits}
-use Rattle.claims.proofs.Layers.{Layers, moved, stays}
-use Rattle.claims.proofs.Meets.{numbers}
+use Rattle.claims.proofs.Counted.{counted-next}
+use Rattle.claims.proofs.Cut.{entry-thread}
 use Rattle.claims.proofs.Run.{Going}
-use Rattle.claims.proofs.Seen.{seenOf}
-use Rattle.claims.proofs.Steps.{one-sound}
-use Rattle.claims.proofs.Telling.{tells-of}
 use Rattle.kept.specs.declared.Kept.{Kept}
+use Rattle.runner.proofs.Invariant.{assignedBy, Next}
 use Rattle.kept.specs.Kept.{placeOf, callAt, keptBy, keptOf, unkept, afterEntry, afterServing}
 
 -- what the arrays say of the entries so far, the latest first
@@ -92,10 +77,6 @@ call-there c b = ap₂ call (omega arith) (omega arith)
 place-there : (p : ℕ) (c : Call) → callAt p ≡ c → p ≡ placeOf c
 place-there p c e = sym (div-add-mod p 16) ∙ ap placeOf e
 
--- a blank makes no reference
-silent : (l : Line) (x : Node) (m : NodeId) → eventNumber (eventIn (rowOf l .event) x) ≡ eventNumber Blank → accessesOf (rowOf l) m ≡ []
-silent l x m z = by-line (λ (l : Line). accessesOf (rowOf l) m ≡ []) l (numbers l x .blank z) refl
-
 -- one serving more: a call that it is not of shows what it did, and one that no thread has served shows it
 module _ (c : Call) (w : Serving) where
   shown-before : same c (w .call) ≡ false → (l : List Serving) → shownOf c (l ++ w ∷ []) ≡ shownOf c l
@@ -116,71 +97,65 @@ kept-alike : (w : Shown) {remote remote′ began began′ returned returned′ :
     → keptBy w remote began returned ≡ keptBy w remote′ began′ returned′
 kept-alike w r b e = rw (r, b, e)
 
-module _ (s : State) (t : ThreadId) where
+module _ (m : Method) (s : State) (t : ThreadId) where
   -- the place of the entry's call, and of the call that it serves if it does
   abbrev pub place : ℕ
-  place = 16 * t .0 + (effect s t .thread .begun - 1)
+  place = 16 * t .0 + (effectBy m s t .thread .begun - 1)
 
   abbrev pub served : List ℕ → ℕ
-  served given = cond (sameEvent (event s t) Applies) (getD given (target s t .0) 0) place
+  served given = cond (is Applies (entryBy m s t)) (getD given (pointsToBy m s t .0) 0) place
 
   -- the arrays after the entry, which has a number; d stands for the places past the calls'
   abbrev pub enteredCalls : ℕ → Kept → List Kept → List Kept
-  enteredCalls number d kept = set kept place (afterEntry (getD kept place d) (event s t) (references s t .remote) number)
+  enteredCalls number d kept = set kept place (afterEntry (getD kept place d) (entryBy m s t .event) (remoteIn (entryBy m s t .remote)) number)
 
   abbrev pub servedCalls : Kept → List ℕ → List ℕ → List Kept → List Kept
   servedCalls d given turns kept =
       set kept (served given)
-      (afterServing (getD kept (served given) d) (sameEvent (event s t) Applies) (applied s t .answer) t (getD turns (t .0) 0))
+      (afterServing (getD kept (served given) d) (is Applies (entryBy m s t)) (appliedBy m s t .answer) t (getD turns (t .0) 0))
 
   abbrev pub orderAfter : List ℕ → List ℕ
-  orderAfter order = cond (sameEvent (event s t) Swaps) (set order (s .counts .records) (place % 65536)) order
+  orderAfter order = cond (is Swaps (entryBy m s t)) (set order (s .counts .records) (place % 65536)) order
 
   abbrev pub givenAfter : List ℕ → List ℕ
-  givenAfter given = cond (sameEvent (event s t) Swaps) (set given (s .tail .0) (place % 65536)) given
+  givenAfter given = cond (is Swaps (entryBy m s t)) (set given (assignedBy m s t .0) (place % 65536)) given
 
   abbrev pub turnsAfter : List ℕ → List ℕ
-  turnsAfter turns = cond (sameEvent (event s t) TurnBegins) (set turns (t .0) (s .counts .turns % 65536)) turns
+  turnsAfter turns = cond (is TurnBegins (entryBy m s t)) (set turns (t .0) (s .counts .turns % 65536)) turns
 
-module _ (f : Fields) (fits : InRange f) (s : State) (past : List Entry) (t : ThreadId) (below : t .0 < s .n) (going : Going CcSynch f s past) (now : Layers f s past) (short : length past < 32768) where
+module _ (m : Method) (f : Fields) (fits : InRange f) (s : State) (past : List Entry) (t : ThreadId) (going : Going m f s past) (now : Next m f s past t) (short : length past < 32768) where
   abbrev e : Entry
-  e = entryOf s t
+  e = entryBy m s t
 
-  few : s .n ≤ 16
-  few = state-fits s (now .sound .range) .small
+  few : f .head .n ≤ 16
+  few = fits .head .n .1
 
-  thread-now : viewOf (entered s t) .thread (t .0) ≡ effect s t .thread
-  thread-now = does-of s t (now .sound) below .mine
+  inside : t .0 < f .head .n
+  inside = now .moved .below
 
-  begun-most : effect s t .thread .begun ≤ 16
-  begun-most =
-      let sound = one-sound s t (now .sound) below (stays f fits s past t below going now) (next-fits CcSynch s past t (going .counted) short) in
-      rw (← thread-now) (begun-few (entered s t) t (sound .shape) (sound .range) below)
+  pub place-below : place m s t < mostCalls
+  place-below = omega (arith, few, inside, now .begun-most)
 
-  pub place-below : place s t < mostCalls
-  place-below = omega (arith, few, begun-most)
-
-  place-call : callAt (place s t) ≡ callOf e past
+  place-call : callAt (place m s t) ≡ callOf e past
   place-call =
-      call-there (lastOf (t .0) (effect s t .thread .begun)) (omega (arith, begun-most))
-      ∙ sym (of-last (moved f fits s past t below going now) (now .chronicle .swaps) ∙ ap (λ (th : Thread). lastOf (t .0) (th .begun)) thread-now)
+      call-there (lastOf (t .0) (effectBy m s t .thread .begun)) (omega (arith, now .begun-most))
+      ∙ sym (of-last (now .moved) (now .swaps) ∙ ap (lastOf (t .0)) (now .begun-after))
 
-  call-place : placeOf (callOf e past) ≡ place s t
-  call-place = sym (place-there (place s t) (callOf e past) place-call)
+  call-place : placeOf (callOf e past) ≡ place m s t
+  call-place = sym (place-there (place m s t) (callOf e past) place-call)
 
   -- what the entry adds to its call: remote references, which fit 32 bits
-  adds : costOf (callOf e past) past + references s t .remote ≡ costOf (callOf e past) (e ∷ past)
+  adds : costOf (callOf e past) past + remoteIn (e .remote) ≡ costOf (callOf e past) (e ∷ past)
   adds =
       let c = callOf e past in
-      let count : List Access → ℕ = λ l. referred (s .n) (t .0) (s .copies) l .remote in
       by-event e Blank
-      (λ q. omega (arith, left e past c (blank-of-none e past c q) .cost, ap count (silent (lineOf (line s t)) (node s t) (target s t) q)))
-      (λ q. omega (arith, added e past c (is-of e past q) .cost, remote-ones CcSynch (s .n) (t .0) (s .copies) (accesses s t)))
+      (λ q. omega (arith, left e past c (blank-of-none e past c q) .cost, now .silent q))
+      (λ q. omega (arith, added e past c (is-of e past q) .cost))
 
-  adds-fit : (costOf (callOf e past) past + references s t .remote) % 2 ^ 32 ≡ costOf (callOf e past) (e ∷ past)
+  adds-fit : (costOf (callOf e past) past + remoteIn (e .remote)) % 2 ^ 32 ≡ costOf (callOf e past) (e ∷ past)
   adds-fit =
       ap (λ (k : ℕ). k % 2 ^ 32) adds
-      ∙ mod-eq-of-lt (cost-fits (e ∷ past) (counted-next CcSynch s past t (going .counted) .few) (omega arith) (callOf e past))
+      ∙ mod-eq-of-lt (cost-fits (e ∷ past) (counted-next m s past t (going .counted) .few) (omega arith) (callOf e past))
 
   -- and its number, where it is such an event
   numbers-it : (told : Event) → (Is told e → Is Blank e → ⊥) → cond (is told e) (length past) (numberOf told (callOf e past) past) ≡ numberOf told (callOf e past) (e ∷ past)
@@ -198,9 +173,9 @@ module _ (f : Fields) (fits : InRange f) (s : State) (past : List Entry) (t : Th
   abbrev between : Call → Kept
   between c = keptNow (shownOf c (servings past)) c
 
-  between-own : (k : Kept) → k ≡ keptOf past (callOf e past) → afterEntry k (event s t) (references s t .remote) (length past) ≡ between (callOf e past)
+  between-own : (k : Kept) → k ≡ keptOf past (callOf e past) → afterEntry k (e .event) (remoteIn (e .remote)) (length past) ≡ between (callOf e past)
   between-own k is =
-      ap (λ (k : Kept). afterEntry k (event s t) (references s t .remote) (length past)) is
+      ap (λ (k : Kept). afterEntry k (e .event) (remoteIn (e .remote)) (length past)) is
       ∙ kept-alike (shownOf (callOf e past) (servings past)) adds-fit (numbers-it CallBegins (λ q z. omega arith)) (numbers-it Returns (λ q z. omega arith))
 
   between-other : (c : Call) → (c ≡ callOf e past → ⊥) → keptOf past c ≡ between c
@@ -236,40 +211,40 @@ module _ (f : Fields) (fits : InRange f) (s : State) (past : List Entry) (t : Th
     abbrev w : Serving
     w = servingOf e past
 
-    high : now .ledger .a < now .ledger .s
-    high = (moved f fits s past t below going now) .serving q .1
+    high : now .positions .a < now .positions .s
+    high = (now .moved) .serving q .1
 
     -- the call served is the first of Swap order that was not
-    is-next : w .call ≡ getD (swapOrder past) (now .ledger .a) noCall
-    is-next = serves-next (moved f fits s past t below going now) (now .chronicle .swaps) q noCall
+    is-next : w .call ≡ getD (swapOrder past) (now .positions .a) noCall
+    is-next = serves-next (now .moved) (now .swaps) q noCall
 
-    swapped : Swapped (f .head .n) (seenOf (viewOf s)) (w .call)
-    swapped = rw is-next (now .chronicle .swaps .swapped (now .ledger .a) noCall high)
+    swapped : Swapped (f .head .n) (now .seen) (w .call)
+    swapped = rw is-next (now .swaps .swapped (now .positions .a) noCall high)
 
     request-few : w .call .request < 16
-    request-few = omega (arith, swapped .begun, begun-few s (w .call .thread) (now .sound .shape) (now .sound .range) (omega (arith, swapped .thread, going .n)))
+    request-few = omega (arith, swapped .begun, now .begun-few (w .call .thread .0) (swapped .thread))
 
     given-below : placeOf (w .call) < mostCalls
-    given-below = omega (arith, swapped .thread, going .n, few, request-few)
+    given-below = omega (arith, swapped .thread, few, request-few)
 
     unserved : shownOf (w .call) (servings past) ≡ unshown
-    unserved = rw is-next (shown-none (now .chronicle .swaps) (now .chronicle .order) (now .ledger .a) noCall (omega arith) high)
+    unserved = rw is-next (shown-none (now .swaps) (now .order) (now .positions .a) noCall (omega arith) high)
 
     servers : Each (λ (x : Serving). x .server .0 < noThread .0) (servings past)
-    servers = each-map (λ (x : Serving) b. omega (arith, few, going .n)) (servings past) (now .chronicle .servers)
+    servers = each-map (λ (x : Serving) b. omega (arith, few)) (servings past) (now .servers)
 
     shown-more : (c : Call) → shownOf c (servings (e ∷ past)) ≡ shownOf c (servings past ++ w ∷ [])
     shown-more c = ap (shownOf c) (one-more Applies (servings past) w q)
 
     -- the serving as it is shown
     abbrev shows : Shown
-    shows = record { ret = Answered (applied s t .answer); server = t; turn = turnOf t past }
+    shows = record { ret = Answered (appliedBy m s t .answer); server = t; turn = turnOf t past }
 
     shown-so : shown w ≡ shows
-    shown-so = ap (λ (answer : RetVal). record { ret = answer; server = t; turn = turnOf t past }) (if-is Applies (Answered (applied s t .answer)) NoAnswer q)
+    shown-so = ap₂ (λ (answer : RetVal) (server : ThreadId). record { ret = answer; server = server; turn = turnOf server past }) (now .answers q) (entry-thread m s t)
 
     serving-own : (k : Kept) → k ≡ between (w .call)
-        → afterServing k (is Applies e) (applied s t .answer) t (turnOf t past) ≡ keptOf (e ∷ past) (w .call)
+        → afterServing k (is Applies e) (appliedBy m s t .answer) t (turnOf t past) ≡ keptOf (e ∷ past) (w .call)
     serving-own k is =
         if-is Applies _ k q ∙ ap (λ (k : Kept). keptBy shows (k .remote) (k .began) (k .returned)) is
         ∙ known (w .call) shows
@@ -278,18 +253,12 @@ module _ (f : Fields) (fits : InRange f) (s : State) (past : List Entry) (t : Th
     serving-other : (c : Call) → (c ≡ w .call → ⊥) → between c ≡ keptOf (e ∷ past) c
     serving-other c apart = known c _ (shown-more c ∙ shown-before c w (not-same c (w .call) apart) (servings past))
 
-  target-below : target s t .0 < mostNodes
-  target-below = omega (arith, target-in-range s t (now .sound .shape) (now .sound .range) below, few)
-
-  tail-below : s .tail .0 < mostNodes
-  tail-below = omega (arith, few, state-fits s (now .sound .range) .tail)
-
   -- the latest Swap that assigned a node
   given-by : (m : ℕ) (b : Bool) → (is Swaps e && eqb (e .node .0) m) ≡ b → callAssigned (nodeId m) (e ∷ past) ≡ cond b (callOf e past) (callAssigned (nodeId m) past)
   given-by m b is = ap (λ (b : Bool). cond b (callOf e past) (callAssigned (nodeId m) past)) is
 
   -- and the turn that a thread began last
-  turn-by : (u : ℕ) (b : Bool) → (eqb (t .0) u && is TurnBegins e) ≡ b → turnOf (threadId u) (e ∷ past) ≡ cond b (howMany TurnBegins past) (turnOf (threadId u) past)
+  turn-by : (u : ℕ) (b : Bool) → (eqb (e .thread .0) u && is TurnBegins e) ≡ b → turnOf (threadId u) (e ∷ past) ≡ cond b (howMany TurnBegins past) (turnOf (threadId u) past)
   turn-by u b is = ap (λ (b : Bool). cond b (howMany TurnBegins past) (turnOf (threadId u) past)) is
 
   -- the turns begun so far number the next
@@ -302,44 +271,44 @@ module _ (f : Fields) (fits : InRange f) (s : State) (past : List Entry) (t : Th
   swaps-counted = ap (λ (c : Counts). c .records) (going .counted .counts) ∙ sym (one-each Swaps callOf past) ∙ sym (length-map (swapOrder past) placeOf)
 
   module _ {kept : List Kept} {order given turns : List ℕ} (tables : Tables past kept order given turns) where
-    served-given : Is Applies e → served s t given ≡ placeOf (callAssigned (e .node) past)
+    served-given : Is Applies e → served m s t given ≡ placeOf (callAssigned (e .node) past)
     served-given q =
-        if-is Applies (getD given (target s t .0) 0) (place s t) q ∙ tables .nodes (target s t .0) target-below
-        ∙ ap (λ (m : ℕ). placeOf (callAssigned (nodeId m) past)) (sym (tells-of s t .serves q))
+        if-is Applies (getD given (pointsToBy m s t .0) 0) (place m s t) q ∙ tables .nodes (pointsToBy m s t .0) (now .serves q)
+        ∙ ap (λ (m : ℕ). placeOf (callAssigned (nodeId m) past)) (sym (now .tells .serves q))
 
-    pub served-below : served s t given < mostCalls
+    pub served-below : served m s t given < mostCalls
     served-below =
         by-event e Applies (λ q. rw (served-given q) (given-below q))
-        (λ q. rw (if-not Applies (getD given (target s t .0) 0) (place s t) q) place-below)
+        (λ q. rw (if-not Applies (getD given (pointsToBy m s t .0) 0) (place m s t) q) place-below)
 
-    nodes-next : (m : ℕ) → m < mostNodes → getD (givenAfter s t given) m 0 ≡ placeOf (callAssigned (nodeId m) (e ∷ past))
-    nodes-next m b =
-        by-told (λ (l : List ℕ). getD l m 0 ≡ placeOf (callAssigned (nodeId m) (e ∷ past))) Swaps _ given
+    nodes-next : (k : ℕ) → k < mostNodes → getD (givenAfter m s t given) k 0 ≡ placeOf (callAssigned (nodeId k) (e ∷ past))
+    nodes-next k b =
+        by-told (λ (l : List ℕ). getD l k 0 ≡ placeOf (callAssigned (nodeId k) (e ∷ past))) Swaps _ given
         (λ q.
-        let assigned : e .node .0 ≡ s .tail .0 = tells-of s t .assigned q in
-        set-all (λ m k. k ≡ placeOf (callAssigned (nodeId m) (e ∷ past))) given (s .tail .0) _ 0 (omega (arith, tail-below, tables .nodes-long))
+        let assigned : e .node .0 ≡ assignedBy m s t .0 = now .tells .assigned q in
+        set-all (λ k place-held. place-held ≡ placeOf (callAssigned (nodeId k) (e ∷ past))) given (assignedBy m s t .0) _ 0 (omega (arith, now .assigns q, tables .nodes-long))
         (mod-eq-of-lt (omega (arith, place-below)) ∙ sym call-place
-        ∙ ap placeOf (sym (given-by (s .tail .0) true (ap₂ _&&_ (is-so e Swaps q) (eq-eqb (e .node .0) (s .tail .0) assigned)))))
-        m
-        (λ apart. tables .nodes m b ∙ ap placeOf (sym (given-by m false (ap₂ _&&_ (is-so e Swaps q) (ne-eqb (e .node .0) m (λ z. apart (sym z ∙ assigned))))))))
-        (λ q. tables .nodes m b ∙ ap placeOf (sym (given-by m false (ap (λ (b : Bool). b && eqb (e .node .0) m) (is-not e Swaps q)))))
+        ∙ ap placeOf (sym (given-by (assignedBy m s t .0) true (ap₂ _&&_ (is-so e Swaps q) (eq-eqb (e .node .0) (assignedBy m s t .0) assigned)))))
+        k
+        (λ apart. tables .nodes k b ∙ ap placeOf (sym (given-by k false (ap₂ _&&_ (is-so e Swaps q) (ne-eqb (e .node .0) k (λ z. apart (sym z ∙ assigned))))))))
+        (λ q. tables .nodes k b ∙ ap placeOf (sym (given-by k false (ap (λ (b : Bool). b && eqb (e .node .0) k) (is-not e Swaps q)))))
 
-    threads-next : (u : ℕ) → u < 16 → getD (turnsAfter s t turns) u 0 ≡ turnOf (threadId u) (e ∷ past)
+    threads-next : (u : ℕ) → u < 16 → getD (turnsAfter m s t turns) u 0 ≡ turnOf (threadId u) (e ∷ past)
     threads-next u b =
         by-told (λ (l : List ℕ). getD l u 0 ≡ turnOf (threadId u) (e ∷ past)) TurnBegins _ turns
         (λ q.
         set-all (λ u k. k ≡ turnOf (threadId u) (e ∷ past)) turns (t .0) _ 0 (omega (arith, few, tables .threads-long))
-        (turns-begun ∙ sym (turn-by (t .0) true (rw (is-so e TurnBegins q, eq-eqb (t .0) (t .0) refl))))
+        (turns-begun ∙ sym (turn-by (t .0) true (rw (is-so e TurnBegins q, now .tells .thread, eq-eqb (t .0) (t .0) refl))))
         u
-        (λ apart. tables .threads u b ∙ sym (turn-by u false (rw (ne-eqb (t .0) u (λ z. apart (sym z)))))))
-        (λ q. tables .threads u b ∙ sym (turn-by u false (rw (is-not e TurnBegins q) (and-false (eqb (t .0) u)))))
+        (λ apart. tables .threads u b ∙ sym (turn-by u false (rw (now .tells .thread, ne-eqb (t .0) u (λ z. apart (sym z)))))))
+        (λ q. tables .threads u b ∙ sym (turn-by u false (rw (is-not e TurnBegins q) (and-false (eqb (e .thread .0) u)))))
 
-    swaps-next : (Is Swaps e → s .counts .records < mostCalls) → orderAfter s t order ≡ filled mostCalls 0 (map placeOf (swapOrder (e ∷ past)))
+    swaps-next : (Is Swaps e → s .counts .records < mostCalls) → orderAfter m s t order ≡ filled mostCalls 0 (map placeOf (swapOrder (e ∷ past)))
     swaps-next room =
         let places = map placeOf (swapOrder past) in
         by-told (λ (l : List ℕ). l ≡ filled mostCalls 0 (map placeOf (swapOrder (e ∷ past)))) Swaps _ order
         (λ q.
-        ap₂ (λ (l : List ℕ) (i : ℕ). set l i (place s t % 65536)) (tables .swaps) swaps-counted
+        ap₂ (λ (l : List ℕ) (i : ℕ). set l i (place m s t % 65536)) (tables .swaps) swaps-counted
         ∙ ap (set (filled mostCalls 0 places) (length places)) (mod-eq-of-lt (omega (arith, place-below)) ∙ sym call-place)
         ∙ set-filled 0 mostCalls (length places) places (placeOf (callOf e past)) refl (omega (arith, swaps-counted, room q))
         ∙ ap (filled mostCalls 0) (sym (ap (map placeOf) (one-more Swaps (swapOrder past) (callOf e past) q) ∙ map-append placeOf (swapOrder past) (callOf e past ∷ []))))
@@ -348,47 +317,47 @@ module _ (f : Fields) (fits : InRange f) (s : State) (past : List Entry) (t : Th
     -- d stands for the places past the calls', which nothing reads
     module _ (d : Kept) where
       abbrev kept′ : List Kept
-      kept′ = enteredCalls s t (length past) d kept
+      kept′ = enteredCalls m s t (length past) d kept
 
       entered-long : length kept′ ≡ mostCalls
-      entered-long = length-set kept (place s t) _ ∙ tables .calls-long
+      entered-long = length-set kept (place m s t) _ ∙ tables .calls-long
 
       calls-entered : (p : ℕ) → p < mostCalls → getD kept′ p unkept ≡ between (callAt p)
       calls-entered p b =
-          let i = place s t in
+          let i = place m s t in
           let inside : i < length kept = omega (arith, place-below, tables .calls-long) in
           set-all (λ p k. k ≡ between (callAt p)) kept i _ unkept inside
           (between-own (getD kept i d) (getD-any kept i d unkept inside ∙ tables .calls i place-below ∙ ap (keptOf past) place-call) ∙ ap between (sym place-call))
           p
           (λ apart. tables .calls p b ∙ between-other (callAt p) (λ z. apart (place-there p (callOf e past) z ∙ call-place)))
 
-      calls-serving : Is Applies e → (p : ℕ) → p < mostCalls → getD (servedCalls s t d given turns kept′) p unkept ≡ keptOf (e ∷ past) (callAt p)
+      calls-serving : Is Applies e → (p : ℕ) → p < mostCalls → getD (servedCalls m s t d given turns kept′) p unkept ≡ keptOf (e ∷ past) (callAt p)
       calls-serving q p b =
-          let i = served s t given in
+          let i = served m s t given in
           let c = callAssigned (e .node) past in
           let there : callAt i ≡ c = ap callAt (served-given q) ∙ call-there c (request-few q) in
           let inside : i < length kept′ = omega (arith, served-below, entered-long) in
           set-all (λ p k. k ≡ keptOf (e ∷ past) (callAt p)) kept′ i _ unkept inside
-          (ap (afterServing (getD kept′ i d) (is Applies e) (applied s t .answer) t) (tables .threads (t .0) (omega (arith, few)))
+          (ap (afterServing (getD kept′ i d) (is Applies e) (appliedBy m s t .answer) t) (tables .threads (t .0) (omega (arith, few)))
           ∙ serving-own q (getD kept′ i d) (getD-any kept′ i d unkept inside ∙ calls-entered i served-below ∙ ap between there)
           ∙ ap (keptOf (e ∷ past)) (sym there))
           p
           (λ apart. calls-entered p b ∙ serving-other q (callAt p) (λ z. apart (place-there p c z ∙ sym (served-given q))))
 
-      calls-next : (p : ℕ) → p < mostCalls → getD (servedCalls s t d given turns kept′) p unkept ≡ keptOf (e ∷ past) (callAt p)
+      calls-next : (p : ℕ) → p < mostCalls → getD (servedCalls m s t d given turns kept′) p unkept ≡ keptOf (e ∷ past) (callAt p)
       calls-next p b =
-          let i = served s t given in
+          let i = served m s t given in
           by-event e Applies (λ q. calls-serving q p b)
           (λ q.
           ap (λ (l : List Kept). getD l p unkept) (ap (set kept′ i) (if-not Applies _ (getD kept′ i d) q) ∙ set-getD kept′ i d)
           ∙ calls-entered p b ∙ not-serving q (callAt p))
 
       -- every entry keeps the tables
-      pub tables-next : (Is Swaps (entryOf s t) → s .counts .records < mostCalls)
-          → Tables (entryOf s t ∷ past) (servedCalls s t d given turns (enteredCalls s t (length past) d kept)) (orderAfter s t order) (givenAfter s t given) (turnsAfter s t turns)
+      pub tables-next : (Is Swaps (entryBy m s t) → s .counts .records < mostCalls)
+          → Tables (entryBy m s t ∷ past) (servedCalls m s t d given turns (enteredCalls m s t (length past) d kept)) (orderAfter m s t order) (givenAfter m s t given) (turnsAfter m s t turns)
       tables-next room = record {
-        calls-long = length-set kept′ (served s t given) _ ∙ entered-long;
-        nodes-long = by-told (λ (l : List ℕ). length l ≡ mostNodes) Swaps _ given (λ q. length-set given (s .tail .0) _ ∙ tables .nodes-long) (λ q. tables .nodes-long);
+        calls-long = length-set kept′ (served m s t given) _ ∙ entered-long;
+        nodes-long = by-told (λ (l : List ℕ). length l ≡ mostNodes) Swaps _ given (λ q. length-set given (assignedBy m s t .0) _ ∙ tables .nodes-long) (λ q. tables .nodes-long);
         threads-long = by-told (λ (l : List ℕ). length l ≡ 16) TurnBegins _ turns (λ q. length-set turns (t .0) _ ∙ tables .threads-long) (λ q. tables .threads-long);
         calls = calls-next;
         swaps = swaps-next room;
