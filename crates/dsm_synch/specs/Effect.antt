@@ -11,7 +11,7 @@ use Rattle.machine.specs.declared.Effect.{Effect}
 use Rattle.machine.specs.Fields.{null, isNull, isEmptyReq, isEmptyRet, withReq, withRet, withWait, withCompleted, withNext}
 use Rattle.machine.specs.Owners.{nodeOf}
 use Rattle.machine.specs.Threads.{goes, withMy, withPred, withTmp, withServed, keeping, writing}
-use Rattle.dsm_synch.specs.Lines.{Line, empties, following, L0, L1, L2, L3, L4, L5, L6, L7, L8, L9, L10, L11, L12, L13, L14, L15, L16, L17, L18, L19, L20, L21, L22, L23, L24, L25, L26, L27, L28}
+use Rattle.dsm_lines.specs.Lines.{Line, empties, following, L0, L1, L2, L3, L4, L5, L6, L7, L8, L9, L10, L11, L12, L13, L14, L15, L16, L17, L18, L19, L20, L21, L22, L23, L24, L25, L26, L27, L28}
 
 -- line 1 adds 1 to the requests begun, sets the served counter to 0, toggles, and empties myNode, myPredNode and tmpNode
 abbrev pub begins : Thread → ℕ → Thread
@@ -28,6 +28,10 @@ begins th line = record {
   my = null;
   pred = null;
 }
+
+-- the node that line 7's Swap assigns to its call: of Tail's, which it gives, and myNode, which it puts in, the latter
+abbrev pub assigned : Thread → NodeId → NodeId
+assigned th tail = th .my
 
 -- line 16 uses the req of its node, lines 12, 24 and 28 the ret
 abbrev pub usesEmpty : Node → ℕ → Bool

@@ -1,1 +1,1 @@
-// DSM-Synch, Algorithm 2 of source 004, on definitions: no service runs it yet.
+// What one printed line of DSM-Synch does to its thread, to the node that it writes and to Tail: Algorithm 2 of source 004. No service runs it yet.

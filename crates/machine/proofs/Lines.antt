@@ -3,8 +3,8 @@
 use Prim.Native.Nat.{ℕ, zero, suc, _+_, _≤_, _<_}
 use native.Mathlib.Omega.{arith}
 use mathlib.Core.Path.{_≡_, sym, ap, subst, _∙_}
-use mathlib.Core.List.{List, [], _∷_}
-use lib.ListN.{length, getD}
+use mathlib.Core.List.{List, [], _∷_, map}
+use lib.ListN.{length, getD, List·getD-map}
 use borrow.Author.Tests.{ne-eqb, lt-ltb, le-ltb, lt-leb}
 use Rattle.object.specs.Each.{Each}
 use Rattle.object.proofs.Choice.{by-equal, by-order}
@@ -28,6 +28,15 @@ module _ {Line : Type 0} (number : Line → ℕ) (blank : Line) where
     -- what holds of each of the lines and of a blank holds of every line
     pub each-of : (P : Line → Type 0) → Each P lines → P blank → (l : Line) → P l
     each-of P each none l = subst P (line-at l) (each-getD-or P lines (number l) blank each none)
+
+    -- two functions of a line that give the same list of all lines agree on every line
+    pub agree-on : {A : Type 0} (f g : Line → A) → map f lines ≡ map g lines → f blank ≡ g blank → (l : Line) → f l ≡ g l
+    agree-on f g same none l =
+        subst (λ (k : Line). f k ≡ g k) (line-at l)
+        (sym (List·getD-map f lines (number l) blank)
+        ∙ ap (λ (a : List _). getD a (number l) (f blank)) same
+        ∙ ap (getD (map g lines) (number l)) none
+        ∙ List·getD-map g lines (number l) blank)
 
     -- a line whose number is known
     pub by-number : (P : Line → Type 0) (l : Line) {k : ℕ} → number l ≡ k → P (getD lines k blank) → P l

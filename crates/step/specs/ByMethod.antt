@@ -18,7 +18,7 @@ use Rattle.machine.specs.Accesses.{Access, toNull, pointed}
 use Rattle.machine.specs.Lines.{lineRun}
 use Rattle.cc_lines.specs.Lines as ccLines
 use Rattle.cc_synch.specs.Effect as ccEffect
-use Rattle.dsm_synch.specs.Lines as dsmLines
+use Rattle.dsm_lines.specs.Lines as dsmLines
 use Rattle.dsm_synch.specs.Effect as dsmEffect
 use Rattle.copies.specs.Remote.{Referred, referredBy}
 use Rattle.state.specs.declared.Counts.{Counts}

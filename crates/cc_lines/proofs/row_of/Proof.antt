@@ -3,7 +3,8 @@ use Prim.Native.Nat.{ℕ, _+_, _-_}
 use native.Mathlib.Omega.{arith}
 use mathlib.Core.Path.{_≡_, _∙_, ap}
 use borrow.Author.Needs.{needs}
-use Rattle.cc_lines.specs.Lines.{lineOf, rowFrom, rowOf}
+use Rattle.machine.specs.Accesses.{rowFrom}
+use Rattle.cc_lines.specs.Lines.{lineOf, rowOf}
 use Rattle.cc_lines.proofs.Table.{no-line-above}
 use Rattle.cc_lines.proofs.row_of.Statement.{statement}
 use Rattle.cc_lines.proofs.row_of.Tie as tie
