@@ -1,5 +1,5 @@
 -- What the judge answers goes by the head, and then by how many requests and entries are read: `judgedAs` of `judgeOf`. Assumes nothing.
-use Prim.Native.Nat.{ℕ, _≤_}
+use Prim.Native.Nat.{ℕ}
 use native.Mathlib.Omega.{arith}
 use mathlib.Core.Path.{_≡_, refl}
 use mathlib.Core.List.{List, [], _∷_}
@@ -11,7 +11,7 @@ use Rattle.bench_file.specs.declared.Judged.the-variants as Judged
 use Rattle.bench_file.specs.Reading.{Outcome, refused, read, Reader, after, _>>=_, _>>_, done, several, end}
 use Rattle.bench_file.specs.Layout.{Fields, headLength, headReader, rowReader, scheduleReader, fileReader, Judgement, accepted, refusedBy, judged, judgeOf}
 use Rattle.object.specs.Each.{Each, sumOf}
-use Rattle.bench_file.specs.Bytes.{Byte}
+use Rattle.bench_file.specs.Bytes.{Byte, Tabled}
 use Rattle.bench_file.specs.Cursor.{tallied, scheduleAs, rowsAs}
 use Rattle.bench_file.specs.Promise.{judgedAs, judgedRefusal, Judges}
 use Rattle.bench_file.proofs.Numbered.{refused-tabled}
@@ -36,10 +36,10 @@ from-rows : (head : Head) (o : Outcome (List (List Request)))
 from-rows head (refused refusal) = refl
 from-rows head (read rows rest) = from-schedule head rows (scheduleReader (head .n) rest)
 
-pub judged-head : (s : List ℕ) (head : Head) → headReader s ≡ read head (drop headLength s)
-    → judgedAs (judgeOf s) ≡ rowsAs head (tallied (sumOf length) (several (head .n) (rowReader (head .object)) (drop headLength s)))
+pub judged-head : (s : List ℕ) (head : Head) → headReader s ≡ read head (drop (headLength (head .version)) s)
+    → judgedAs (judgeOf s) ≡ rowsAs head (tallied (sumOf length) (several (head .n) (rowReader (head .object)) (drop (headLength (head .version)) s)))
 unfolding judgeOf fileReader
-judged-head s head e = rw e (from-rows head (several (head .n) (rowReader (head .object)) (drop headLength s)))
+judged-head s head e = rw e (from-rows head (several (head .n) (rowReader (head .object)) (drop (headLength (head .version)) s)))
 
 pub judged-refused : (s : List ℕ) (refusal : ℕ) → headReader s ≡ refused refusal → judgedAs (judgeOf s) ≡ Judged.Refused refusal
 unfolding judgeOf fileReader
@@ -47,9 +47,9 @@ judged-refused s refusal e = rw e
 
 -- what a judgement's number says of it
 number-of : (bs : List ℕ) (j : Judgement) → judgeOf bs ≡ j
-    → (judgedRefusal (judgedAs j) ≤ 12) × (judgedRefusal (judgedAs j) ≡ 0 → (f : Fields) × (judgeOf bs ≡ accepted f))
-number-of bs (accepted f) e = (omega arith, λ z. (f, e))
-number-of bs (refusedBy refusal) e = (omega (arith, refused-tabled bs refusal e), λ z. absurd (omega (arith, refused-tabled bs refusal e)))
+    → ((judgedRefusal (judgedAs j) ≡ 0 → ⊥) → Tabled (judgedRefusal (judgedAs j))) × (judgedRefusal (judgedAs j) ≡ 0 → (f : Fields) × (judgeOf bs ≡ accepted f))
+number-of bs (accepted f) e = (λ z. absurd (z refl), λ z. (f, e))
+number-of bs (refusedBy refusal) e = (λ z. refused-tabled bs refusal e, λ z. absurd (omega (arith, refused-tabled bs refusal e)))
 
 pub judges : (bs : List ℕ) {r : Judged} → Each Byte bs → r ≡ judgedAs (judgeOf bs) → Judges bs r
 judges bs p e =

@@ -9,3 +9,4 @@ pub mod Reading
 pub mod Request
 pub mod RoundTrip
 pub mod Size
+pub mod Twin

@@ -1,16 +1,16 @@
--- A reader that refuses gives a number of document 01's table for files, 1 to 12, and so never 0, which stands for no refusal. Assumes nothing.
+-- A reader that refuses gives a number of the papers' table for files, 1 to 12 or 15, and so never 0, which stands for no refusal. Assumes nothing.
 use Prim.Native.Nat.{ℕ, zero, suc}
 use native.Mathlib.Decide.{decLe}
 use native.Mathlib.Omega.{arith}
 use mathlib.Core.Path.{_≡_, refl}
-use mathlib.Core.Bool.{Bool, true, false}
+use mathlib.Core.Bool.{Bool, true, false, cond}
 use mathlib.Core.List.{List, [], _∷_}
 use lib.ListN.{length}
 use lib.Dec.{leb, eqb}
 use Rattle.object.specs.declared.Kind.{Kind}
 use Rattle.object.specs.Paper.{kindOf, requestOf, valueAllowed}
 use Rattle.bench_file.specs.Reading.{Outcome, refused, read, Reader, after, done, rule, field, littleEndian, number, byte, ruledByte, several, end}
-use Rattle.bench_file.specs.Layout.{Fields, isMark, startReader, limitsReader, headReader, requestReader, rowReader, scheduleReader, fileReader, refusedBy, judged, judgeOf}
+use Rattle.bench_file.specs.Layout.{Fields, versionKnown, isMark, startReader, methodReader, limitsReader, headReader, requestReader, rowReader, scheduleReader, fileReader, refusedBy, judged, judgeOf}
 use Rattle.bench_file.specs.Cursor.{tallied}
 use Rattle.bench_file.specs.Bytes.{Tabled}
 use Rattle.bench_file.proofs.Reading.{field-whole, field-cut}
@@ -74,18 +74,27 @@ unfolding startReader
 start-numbered =
     after-numbered (field-numbered 3) (λ mark.
     after-numbered (rule-numbered 2 (isMark mark) (omega arith)) (λ u.
-    after-numbered (number-numbered 2) (λ version. rule-numbered 3 (eqb version 1) (omega arith))))
+    after-numbered (number-numbered 2) (λ version.
+    after-numbered (rule-numbered 3 (versionKnown version) (omega arith)) (λ u. done-numbered version))))
 
-limits-numbered : (object : Kind) → Numbered (limitsReader object)
+choice-numbered : {A : Type 0} {r s : Reader A} (b : Bool) → Numbered r → Numbered s → Numbered (cond b r s)
+choice-numbered true first second = first
+choice-numbered false first second = second
+
+method-numbered : (version : ℕ) → Numbered (methodReader version)
+method-numbered version = choice-numbered (eqb version 1) (done-numbered _) (after-numbered (ruled-byte-numbered 15 _ (omega arith)) (λ number. done-numbered _))
+
+limits-numbered : (version : ℕ) (object : Kind) → Numbered (limitsReader version object)
 unfolding limitsReader
-limits-numbered object =
+limits-numbered version object =
     after-numbered (ruled-byte-numbered 5 _ (omega arith)) (λ n.
     after-numbered (ruled-byte-numbered 6 _ (omega arith)) (λ h.
-    after-numbered (ruled-byte-numbered 7 _ (omega arith)) (λ capacity. done-numbered _)))
+    after-numbered (ruled-byte-numbered 7 _ (omega arith)) (λ capacity.
+    after-numbered (method-numbered version) (λ method. done-numbered _))))
 
 head-numbered : Numbered headReader
 unfolding headReader
-head-numbered = after-numbered start-numbered (λ u. after-numbered (ruled-byte-numbered 4 _ (omega arith)) (λ object. limits-numbered (kindOf object)))
+head-numbered = after-numbered start-numbered (λ version. after-numbered (ruled-byte-numbered 4 _ (omega arith)) (λ object. limits-numbered version (kindOf object)))
 
 row-numbered : (object : Kind) → Numbered (rowReader object)
 unfolding rowReader
@@ -114,7 +123,7 @@ judged-tabled : (o : Outcome Fields) (refusal : ℕ) → judged o ≡ refusedBy 
 judged-tabled (refused other) refusal e = cc
 judged-tabled (read f rest) refusal e = let z : _≡_ {A = ℕ} 0 1 = cc in absurd (omega arith)
 
--- a file that is refused is given a number of the table, 1 to 12
+-- a file that is refused is given a number of the table, 1 to 12 or 15
 pub refused-tabled : (bs : List ℕ) (refusal : ℕ) → judgeOf bs ≡ refusedBy refusal → Tabled refusal
 unfolding judgeOf
 refused-tabled bs refusal e = file-numbered .tabled bs refusal (judged-tabled (fileReader bs) refusal e)

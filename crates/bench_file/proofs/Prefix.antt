@@ -1,10 +1,10 @@
--- The first 34,076 bytes of an input decide how it is judged, and an accepted file has at most 34,075. Assumes for the second that the bytes are bytes.
+-- The first 34,077 bytes of an input decide how it is judged, and an accepted file has at most 34,076. Assumes for the second that the bytes are bytes.
 use Prim.Native.Nat.{ℕ, zero, suc, _+_, _-_, _*_, _≤_}
 use native.Mathlib.Nat.{suc-mul}
 use native.Mathlib.Decide.{decLe}
 use native.Mathlib.Omega.{arith}
 use mathlib.Core.Path.{_≡_, refl, sym, ap, _∙_}
-use mathlib.Core.Bool.{Bool, true, false}
+use mathlib.Core.Bool.{Bool, true, false, cond}
 use mathlib.Core.List.{List, [], _∷_, _++_}
 use lib.ListN.{length, take, drop, length-append, length-drop, take-append-drop}
 use lib.Seq.{length-take-le, take-all, take-append-le, drop-append-le}
@@ -16,7 +16,7 @@ use Rattle.object.specs.Each.{Each}
 use Rattle.object.proofs.Each.{each-append}
 use Rattle.object.proofs.Within.{within-range}
 use Rattle.bench_file.specs.Reading.{Outcome, refused, read, Reader, after, done, rule, field, number, byte, ruledByte, several, end}
-use Rattle.bench_file.specs.Layout.{Fields, headLength, isMark, startReader, limitsReader, headReader, requestReader, rowReader, scheduleReader, fileReader, accepted, judged, judgeOf}
+use Rattle.bench_file.specs.Layout.{Fields, versionKnown, isMark, startReader, methodReader, limitsReader, headReader, requestReader, rowReader, scheduleReader, fileReader, accepted, judged, judgeOf}
 use Rattle.bench_file.specs.Bytes.{Byte}
 use Rattle.bench_file.proofs.Reading.{field-whole, field-cut}
 use Rattle.bench_file.proofs.RoundTrip.{writes-back}
@@ -121,16 +121,26 @@ several-sees {width = width} (suc count) (suc most) h s = wider (rw suc-mul (ome
 -- the parts of a file
 start-sees : Sees Any 5 startReader
 unfolding startReader
-start-sees = chain (field-sees 3) (λ mark p. chain (rule-sees 2 (isMark mark) (λ e. e)) (λ u p. chain (number-sees 2) (λ version p. rule-sees 3 (eqb version 1) (λ e. tt))))
+start-sees =
+    chain (field-sees 3) (λ mark p. chain (rule-sees 2 (isMark mark) (λ e. e)) (λ u p. chain (number-sees 2) (λ version p.
+    chain (rule-sees 3 (versionKnown version) (λ e. e)) (λ u p. done-sees version tt))))
 
-limits-sees : (object : Kind) → Sees (λ head. head .n ≤ 16) 3 (limitsReader object)
+choice-sees : {A : Type 0} {P : A → Type 0} {width : ℕ} {r s : Reader A} (b : Bool) → Sees P width r → Sees P width s → Sees P width (cond b r s)
+choice-sees true first second = first
+choice-sees false first second = second
+
+method-sees : (version : ℕ) → Sees Any 1 (methodReader version)
+method-sees version = choice-sees (eqb version 1) (wider (omega arith) (done-sees _ tt)) (chain (ruled-sees 15 _) (λ number p. done-sees _ tt))
+
+limits-sees : (version : ℕ) (object : Kind) → Sees (λ head. head .n ≤ 16) 4 (limitsReader version object)
 unfolding limitsReader
-limits-sees object =
-    chain (ruled-sees 5 _) (λ n e. chain (ruled-sees 6 _) (λ h p. chain (ruled-sees 7 _) (λ capacity p. done-sees _ (within-range 1 n 16 .0 e .1))))
+limits-sees version object =
+    chain (ruled-sees 5 _) (λ n e. chain (ruled-sees 6 _) (λ h p. chain (ruled-sees 7 _) (λ capacity p.
+    chain (method-sees version) (λ method p. done-sees _ (within-range 1 n 16 .0 e .1)))))
 
-head-sees : Sees (λ head. head .n ≤ 16) headLength headReader
+head-sees : Sees (λ head. head .n ≤ 16) 10 headReader
 unfolding headReader
-head-sees = chain start-sees (λ u p. chain (ruled-sees 4 _) (λ object p. limits-sees _))
+head-sees = chain start-sees (λ version p. chain (ruled-sees 4 _) (λ object p. limits-sees version _))
 
 request-sees : (object : Kind) → Sees Any 5 (requestReader object)
 unfolding requestReader
@@ -144,8 +154,8 @@ schedule-sees : (n : ℕ) → Sees Any 32770 (scheduleReader n)
 unfolding scheduleReader
 schedule-sees n = chain (number-sees 2) (λ entries p. chain (rule-sees 10 _ (λ e. e)) (λ u e. several-sees entries 32768 (leb-true _ _ e) (ruled-sees 11 _)))
 
--- 9 bytes, 16 rows of 81, the schedule and the one byte that `end` asks for
-file-sees : Sees Any 34076 fileReader
+-- 10 bytes, 16 rows of 81, the schedule and the one byte that `end` asks for
+file-sees : Sees Any 34077 fileReader
 unfolding fileReader
 file-sees =
     chain head-sees (λ head h. chain (several-sees (head .n) 16 h (row-sees (head .object))) (λ rows p. chain (schedule-sees (head .n)) (λ schedule p.
@@ -155,25 +165,25 @@ judged-behind : (more : List ℕ) (o : Outcome Fields) → judged (behind more o
 judged-behind more (refused refusal) = refl
 judged-behind more (read f rest) = refl
 
-judged-with-more : (bs more : List ℕ) → 34076 ≤ length bs → judgeOf (bs ++ more) ≡ judgeOf bs
+judged-with-more : (bs more : List ℕ) → 34077 ≤ length bs → judgeOf (bs ++ more) ≡ judgeOf bs
 unfolding judgeOf
 judged-with-more bs more h = ap judged (file-sees .same bs more h) ∙ judged-behind more (fileReader bs)
 
-pub judged-by-prefix : (bytes : List ℕ) → judgeOf (take 34076 bytes) ≡ judgeOf bytes
+pub judged-by-prefix : (bytes : List ℕ) → judgeOf (take 34077 bytes) ≡ judgeOf bytes
 judged-by-prefix bytes =
-    elim (decLe 34076 (length bytes)) [
-      | yes h ↦ sym (judged-with-more (take 34076 bytes) (drop 34076 bytes) (omega (arith, length-take-le 34076 bytes h))) ∙ ap judgeOf (take-append-drop 34076 bytes)
-      | no h ↦ ap judgeOf (take-all 34076 bytes (omega arith))
+    elim (decLe 34077 (length bytes)) [
+      | yes h ↦ sym (judged-with-more (take 34077 bytes) (drop 34077 bytes) (omega (arith, length-take-le 34077 bytes h))) ∙ ap judgeOf (take-append-drop 34077 bytes)
+      | no h ↦ ap judgeOf (take-all 34077 bytes (omega arith))
     ]
 
 -- what was read of an input, its first bytes, is judged as the whole
-pub judged-by-start : (input : List ℕ) {read : List ℕ} {size : ℕ} → size ≡ 34076 → take size input ≡ read → judgeOf read ≡ judgeOf input
+pub judged-by-start : (input : List ℕ) {read : List ℕ} {size : ℕ} → size ≡ 34077 → take size input ≡ read → judgeOf read ≡ judgeOf input
 judged-by-start input long is = ap judgeOf (sym is) ∙ ap (λ (k : ℕ). judgeOf (take k input)) long ∙ judged-by-prefix input
 
 -- a longer one would be accepted with the same fields where a byte follows, but the fields tell the bytes
-pub most-bytes : (bytes : List ℕ) (f : Fields) → Each Byte bytes → judgeOf bytes ≡ accepted f → length bytes ≤ 34075
+pub most-bytes : (bytes : List ℕ) (f : Fields) → Each Byte bytes → judgeOf bytes ≡ accepted f → length bytes ≤ 34076
 most-bytes bytes f p e =
-    elim (decLe 34076 (length bytes)) [
+    elim (decLe 34077 (length bytes)) [
       | yes h ↦
           let followed = writes-back (bytes ++ 0 ∷ []) f (each-append Byte bytes (0 ∷ []) p (lit< tt, tt)) (judged-with-more bytes (0 ∷ []) h ∙ e) in
           absurd (omega (arith, ap length (sym followed ∙ writes-back bytes f p e), length-append bytes (0 ∷ [])))

@@ -1,14 +1,15 @@
 -- The fields of a bench file and its bytes are inverse to each other: what `judgeOf` of specs/Layout.antt accepts is what specs/Bytes.antt writes.
 -- Assumes nothing.
 use Prim.Native.Nat.{ℕ, _≤_, _<_, _^_}
+use native.Mathlib.Decide.{decLe}
 use native.Mathlib.Omega.{arith}
 use mathlib.Core.Path.{_≡_, refl, sym, ap}
 use mathlib.Core.Logic.{_↔_}
-use mathlib.Core.Bool.{true, _&&_, and-eq-true-iff}
+use mathlib.Core.Bool.{Bool, true, false, cond, _&&_, and-eq-true-iff}
 use mathlib.Core.List.{List, [], _∷_, _++_, append-assoc, append-nil}
 use lib.ListN.{length}
 use lib.Dec.{leb, ltb, eqb, lit<}
-use borrow.Author.Tests.{leb-true, le-leb, ltb-true, lt-ltb, eqb-true}
+use borrow.Author.Tests.{leb-true, le-leb, ltb-true, lt-ltb, eqb-true, eq-eqb}
 use Rattle.object.specs.declared.Kind.{Kind}
 use Rattle.object.specs.declared.Kind.the-variants.{Queue, Stack, Counter}
 use Rattle.object.specs.declared.Request.{Request}
@@ -16,17 +17,20 @@ use Rattle.object.specs.declared.Request.the-variants.{Put, Take, Add}
 use Rattle.object.specs.Paper.{kindNumber, kindOf, requestCode, requestValue, requestOf, leastCode, mostCode, valueAllowed, leastCapacity, mostCapacity}
 use Rattle.object.specs.Apply.{knows}
 use Rattle.object.proofs.Inverse.{number-of-kind, kind-of-number, kind-range, most-code, code-told, value-told, request-told}
+use Rattle.machine.specs.declared.Method.{Method}
+use Rattle.machine.specs.declared.Method.the-variants.{CcSynch, DsmSynch}
+use Rattle.machine.specs.Methods.{methodNumber, methodOf}
 use Rattle.bench_file.specs.declared.Head.{Head}
-use Rattle.bench_file.specs.Reading.{Outcome, refused, read, several, end}
-use Rattle.bench_file.specs.Layout.{Fields, isMark, startReader, limitsReader, headReader, requestReader, rowReader, scheduleReader, fileReader, accepted, judged, judgeOf}
+use Rattle.bench_file.specs.Reading.{Outcome, refused, read, _>>=_, done, ranged, several, end}
+use Rattle.bench_file.specs.Layout.{Fields, versionKnown, isMark, startReader, methodReader, limitsReader, headReader, requestReader, rowReader, scheduleReader, fileReader, accepted, judged, judgeOf}
 use Rattle.object.specs.Each.{Each}
-use Rattle.bench_file.specs.Bytes.{lowFirst, requestBytes, eachBytes, rowBytes, headBytes, bytesOf, Byte, RequestInRange, RowInRange, CapacityInRange, HeadInRange, InRange}
+use Rattle.bench_file.specs.Bytes.{lowFirst, requestBytes, eachBytes, rowBytes, methodBytes, headBytes, bytesOf, Byte, RequestInRange, RowInRange, CapacityInRange, HeadInRange, InRange}
 use Rattle.object.proofs.Each.{each-append, each-map}
 use Rattle.object.proofs.Within.{within-range}
 use Rattle.bench_file.proofs.Each.{low-bytes}
-use Rattle.bench_file.proofs.Codec.{Codec, came, left-bytes, restated, done-codec, rule-codec, chain, ruled-codec, ruled-byte-codec, ranged-codec, field-codec, number-codec, several-codec}
+use Rattle.bench_file.proofs.Codec.{Codec, came, left-bytes, restated, done-codec, chain, ruled-codec, ruled-byte-codec, ranged-codec, field-codec, number-codec, several-codec}
 
--- the mark and the version
+-- the mark and the version; `mark` stands before both
 abbrev mark : List ℕ
 mark = 0x43 ∷ 0x43 ∷ 0x53 ∷ []
 
@@ -40,17 +44,50 @@ mark-told (a ∷ b ∷ c ∷ []) h e =
     cc (eqb-true a 0x43 (q .0), eqb-true b 0x43 (q .1), eqb-true c 0x53 (p .1))
 mark-told (a ∷ b ∷ c ∷ d ∷ bs) h e = absurd (omega arith)
 
-start-codec : Codec startReader (λ u. 0x43 ∷ 0x43 ∷ 0x53 ∷ 1 ∷ 0 ∷ []) (λ u. Unit)
-unfolding startReader lowFirst
+start-codec : Codec startReader (λ version. mark ++ lowFirst 2 version) (λ version. (1 ≤ version) × (version ≤ 2))
+unfolding startReader
 start-codec =
     restated
-    (chain (λ u. mark) (λ bs u g h. mark-told bs (g .0) (h .0)) (field-codec 3) (λ bs.
+    (chain (λ version. mark) (λ bs version g h. mark-told bs (g .0) (h .0)) (field-codec 3) (λ bs.
     ruled-codec 2 (isMark bs) (
-    chain (λ u. 1) (λ n u g h. sym (eqb-true n 1 h)) (number-codec 2) (λ n. rule-codec 3 (eqb n 1)))))
-    (λ u. refl)
-    (λ u. (λ g. tt, λ h. ((refl, (lit< tt, (lit< tt, (lit< tt, tt)))), (refl, (lit< tt, refl)))))
+    chain (λ version. version) (λ n version g h. h .1) (number-codec 2) (λ n. ruled-codec 3 (versionKnown n) (done-codec n)))))
+    (λ version. ap (λ (l : List ℕ). mark ++ l) (append-nil (lowFirst 2 version)))
+    (λ version. (
+      λ g. within-range 1 version 2 .0 (g .1 .1 .1 .0),
+      λ h. ((refl, (lit< tt, (lit< tt, (lit< tt, tt)))), (refl, (omega (arith, h), (within-range 1 version 2 .1 h, refl)))),
+    ))
 
--- n, h and the capacity
+-- the method: no byte, or its number
+method-told : (number : ℕ) → number ≤ 1 → methodNumber (methodOf number) ≡ number
+method-told number h =
+    elim (decLe number 0) [
+      | yes e ↦ let none : number ≡ 0 = omega arith in rw none
+      | no e ↦ let one : number ≡ 1 = omega arith in rw one
+    ]
+
+number-told : (method : Method) → methodOf (methodNumber method) ≡ method
+number-told CcSynch = refl
+number-told DsmSynch = refl
+
+number-most : (method : Method) → methodNumber method ≤ 1
+number-most CcSynch = omega arith
+number-most DsmSynch = omega arith
+
+-- by whether the version is 1
+choice-codec : (first : Bool) → Codec (cond first (done CcSynch) (ranged 15 0 1 >>= λ number. done (methodOf number)))
+    (λ method. cond first [] (methodNumber method ∷ [])) (λ method. first ≡ true → method ≡ CcSynch)
+choice-codec true = restated (done-codec CcSynch) (λ method. refl) (λ method. (λ g e. g, λ h. h refl))
+choice-codec false =
+    restated
+    (chain methodNumber (λ number method g h. rw h (method-told number (g .1 .1))) (ranged-codec 15 0 1) (λ number. done-codec (methodOf number)))
+    (λ method. refl)
+    (λ method. (λ g e. let z : _≡_ {A = ℕ} 0 1 = cc in absurd (omega arith), λ h. (omega (arith, number-most method), sym (number-told method))))
+
+method-codec : (version : ℕ) → Codec (methodReader version) (methodBytes version) (λ method. version ≡ 1 → method ≡ CcSynch)
+method-codec version =
+    restated (choice-codec (eqb version 1)) (λ method. refl) (λ method. (λ g e. g (eq-eqb _ _ e), λ h e. h (eqb-true version 1 e)))
+
+-- n, h, the capacity and the method
 pub capacity-range : (k : Kind) (c : ℕ) → ((leastCapacity k ≤ c) × (c ≤ mostCapacity k)) ↔ CapacityInRange k c
 capacity-range Queue c = (λ g. g, λ h. h)
 capacity-range Stack c = (λ g. g, λ h. h)
@@ -61,28 +98,64 @@ capacity-byte Queue c h = omega arith
 capacity-byte Stack c h = omega arith
 capacity-byte Counter c h = omega arith
 
-limits-codec : (object : Kind) → Codec (limitsReader object) (λ head. head .n ∷ head .h ∷ head .capacity ∷ []) (λ head. (head .object ≡ object) × HeadInRange head)
+record Limited (version : ℕ) (object : Kind) (head : Head) : Type 0 where
+  versioned : head .version ≡ version
+  holds : head .object ≡ object
+  threads : (1 ≤ head .n) × (head .n ≤ 16)
+  most : (1 ≤ head .h) × (head .h ≤ 255)
+  room : CapacityInRange object (head .capacity)
+  runs : version ≡ 1 → head .method ≡ CcSynch
+
+limits-codec : (version : ℕ) (object : Kind)
+    → Codec (limitsReader version object) (λ head. head .n ∷ head .h ∷ head .capacity ∷ methodBytes version (head .method)) (Limited version object)
 unfolding limitsReader
-limits-codec object =
+limits-codec version object =
     restated
-    (chain (λ head. head .n) (λ n head g h. ap (λ (head : Head). head .n) (h .1 .1)) (ranged-codec 5 1 16) (λ n.
-    chain (λ head. head .h) (λ n head g h. ap (λ (head : Head). head .h) (h .1)) (ranged-codec 6 1 255) (λ h.
-    chain (λ head. head .capacity) (λ n head g h. ap (λ (head : Head). head .capacity) h) (ranged-codec 7 (leastCapacity object) (mostCapacity object)) (λ capacity.
-    done-codec (record { object = object; n = n; h = h; capacity = capacity })))))
-    (λ head. refl)
+    (chain (λ head. head .n) (λ n head g h. ap (λ (head : Head). head .n) (h .1 .1 .1)) (ranged-codec 5 1 16) (λ n.
+    chain (λ head. head .h) (λ n head g h. ap (λ (head : Head). head .h) (h .1 .1)) (ranged-codec 6 1 255) (λ h.
+    chain (λ head. head .capacity) (λ n head g h. ap (λ (head : Head). head .capacity) (h .1)) (ranged-codec 7 (leastCapacity object) (mostCapacity object)) (λ capacity.
+    chain (λ head. head .method) (λ n head g h. ap (λ (head : Head). head .method) h) (method-codec version) (λ method.
+    done-codec (record { version = version; object = object; n = n; h = h; capacity = capacity; method = method }))))))
+    (λ head. ap (λ (l : List ℕ). head .n ∷ head .h ∷ head .capacity ∷ l) (append-nil (methodBytes version (head .method))))
     (λ head. (
-      λ g. let e = ap (λ (head : Head). head .object) (g .1 .1 .1) in (e, record { n = g .0 .1; h = g .1 .0 .1; capacity = rw e (capacity-range object (head .capacity) .0 (g .1 .1 .0 .1)) }),
-      λ g. ((omega (arith, g .1 .n), g .1 .n), ((omega (arith, g .1 .h), g .1 .h), ((capacity-byte (head .object) (head .capacity) (g .1 .capacity), capacity-range object (head .capacity) .1 (rw (g .0) at (g .1 .capacity))), rw (← g .0)))),
+      λ g. let made = g .1 .1 .1 .1 in record {
+        versioned = ap (λ (head : Head). head .version) made;
+        holds = ap (λ (head : Head). head .object) made;
+        threads = g .0 .1;
+        most = g .1 .0 .1;
+        room = capacity-range object (head .capacity) .0 (g .1 .1 .0 .1);
+        runs = g .1 .1 .1 .0;
+      },
+      λ g. (
+        (omega (arith, g .threads), g .threads),
+        ((omega (arith, g .most), g .most), ((capacity-byte object (head .capacity) (g .room), capacity-range object (head .capacity) .1 (g .room)), (g .runs, rw (← g .versioned, ← g .holds)))),
+      ),
     ))
 
 head-codec : Codec headReader headBytes HeadInRange
 unfolding headReader
 head-codec =
     restated
-    (chain (λ head. tt) (λ u head g h. refl) start-codec (λ u.
-    chain (λ head. kindNumber (head .object)) (λ number head g h. rw (h .0) (kind-of-number number (g .1 .1))) (ranged-codec 4 0 2) (λ number. limits-codec (kindOf number))))
+    (chain (λ head. head .version) (λ version head g h. h .1 .versioned) start-codec (λ version.
+    chain (λ head. kindNumber (head .object)) (λ number head g h. rw (h .holds) (kind-of-number number (g .1 .1))) (ranged-codec 4 0 2) (λ number. limits-codec version (kindOf number))))
     (λ head. refl)
-    (λ head. (λ g. g .1 .1 .1, λ h. (tt, (omega (arith, kind-range (head .object)), (sym (number-of-kind (head .object)), h)))))
+    (λ head. (
+      λ g. let l = g .1 .1 in record { version = g .0; n = l .threads; h = l .most; capacity = rw (l .holds) (l .room); method = l .runs },
+      λ g. (
+        g .version,
+        (
+          omega (arith, kind-range (head .object)),
+          record {
+            versioned = refl;
+            holds = sym (number-of-kind (head .object));
+            threads = g .n;
+            most = g .h;
+            room = rw number-of-kind (g .capacity);
+            runs = g .method;
+          },
+        ),
+      ),
+    ))
 
 -- a request
 pub request-range : (object : Kind) (r : Request) → ((Byte (requestCode r) × ((leastCode object ≤ requestCode r) × (requestCode r ≤ mostCode object))) × (requestValue r < 256 ^ 4)) ↔ RequestInRange object r

@@ -1,14 +1,18 @@
--- How long a file is: 11 bytes, one for each thread, five for each request and one for each entry. Assumes nothing.
-use Prim.Native.Nat.{suc, _+_, _*_}
+-- How long a file is: its head, two bytes for the schedule's length, one for each thread, five for each request and one for each entry. Assumes nothing.
+use Prim.Native.Nat.{ℕ, suc, _+_, _*_}
 use native.Mathlib.Omega.{arith}
 use mathlib.Core.Path.{_≡_, refl, ap}
+use mathlib.Core.Bool.{Bool, true, false, cond}
 use mathlib.Core.List.{List, [], _∷_}
 use lib.ListN.{length, length-append}
+use lib.Dec.{eqb}
 use Rattle.object.specs.declared.Request.{Request}
 use Rattle.object.specs.Paper.{requestValue}
 use Rattle.object.specs.Each.{sumOf}
-use Rattle.bench_file.specs.Layout.{Fields}
-use Rattle.bench_file.specs.Bytes.{requestBytes, eachBytes, rowBytes, bytesOf}
+use Rattle.machine.specs.declared.Method.{Method}
+use Rattle.machine.specs.Methods.{methodNumber}
+use Rattle.bench_file.specs.Layout.{Fields, headLength}
+use Rattle.bench_file.specs.Bytes.{requestBytes, eachBytes, rowBytes, methodBytes, bytesOf}
 use Rattle.bench_file.proofs.Each.{eachBytes-length, low-length}
 
 pub request-length : (r : Request) → length (requestBytes r) ≡ 5
@@ -19,6 +23,14 @@ unfolding eachBytes sumOf
 rows-length [] = refl
 rows-length (row ∷ rows) = rw length-append (omega (arith, eachBytes-length requestBytes 5 request-length row, rows-length rows))
 
-pub length-bytes : (f : Fields) → length (bytesOf f) ≡ 11 + length (f .rows) + 5 * sumOf length (f .rows) + length (f .schedule)
+-- the head's last byte, where it has one
+method-length : (first : Bool) (number : ℕ) → 9 + length (cond first [] (number ∷ [])) ≡ cond first 9 10
+method-length true number = refl
+method-length false number = refl
+
+head-length : (version : ℕ) (method : Method) → 9 + length (methodBytes version method) ≡ headLength version
+head-length version method = method-length (eqb version 1) (methodNumber method)
+
+pub length-bytes : (f : Fields) → length (bytesOf f) ≡ headLength (f .head .version) + 2 + length (f .rows) + 5 * sumOf length (f .rows) + length (f .schedule)
 unfolding bytesOf
-length-bytes f = simp length-append (omega (arith, rows-length (f .rows), low-length 2 (length (f .schedule))))
+length-bytes f = simp length-append (omega (arith, head-length (f .head .version) (f .head .method), rows-length (f .rows), low-length 2 (f .head .version), low-length 2 (length (f .schedule))))

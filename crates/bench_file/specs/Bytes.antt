@@ -1,14 +1,19 @@
--- The bytes of given fields, and which fields are in range: written from the layout of document 01, apart from its judge.
+-- The bytes of given fields, and which fields are in range: written from the layouts of documents 01 and 02, apart from their judge.
 use Prim.Native.Nat.{ℕ, zero, suc, _/_, _%_, _≤_, _<_, _^_}
 use mathlib.Core.Path.{_≡_}
+use mathlib.Core.Bool.{cond}
 use mathlib.Core.List.{List, [], _∷_, _++_}
 use lib.ListN.{length}
+use lib.Dec.{eqb}
 use Rattle.object.specs.declared.Kind.{Kind}
 use Rattle.object.specs.declared.Kind.the-variants.{Queue, Stack, Counter}
 use Rattle.object.specs.declared.Request.{Request}
 use Rattle.object.specs.declared.Request.the-variants.{Put, Take, Add}
 use Rattle.object.specs.Each.{Each}
 use Rattle.object.specs.Paper.{kindNumber, requestCode, requestValue}
+use Rattle.machine.specs.declared.Method.{Method}
+use Rattle.machine.specs.declared.Method.the-variants.{CcSynch}
+use Rattle.machine.specs.Methods.{methodNumber}
 use Rattle.bench_file.specs.declared.Head.{Head}
 use Rattle.bench_file.specs.Layout.{Fields}
 
@@ -30,9 +35,16 @@ eachBytes bytes (a ∷ l) = bytes a ++ eachBytes bytes l
 abbrev pub rowBytes : List Request → List ℕ
 rowBytes row = length row ∷ eachBytes requestBytes row
 
--- bytes 0 to 8: mark, version, object, n, h, capacity
+-- the method's byte, which version 1 does not have
+abbrev pub methodBytes : ℕ → Method → List ℕ
+methodBytes version method = cond (eqb version 1) [] (methodNumber method ∷ [])
+
+-- mark, version, object, n, h, capacity, method
 abbrev pub headBytes : Head → List ℕ
-headBytes head = 0x43 ∷ 0x43 ∷ 0x53 ∷ 1 ∷ 0 ∷ kindNumber (head .object) ∷ head .n ∷ head .h ∷ head .capacity ∷ []
+headBytes head =
+    (0x43 ∷ 0x43 ∷ 0x53 ∷ [])
+    ++ lowFirst 2 (head .version)
+    ++ (kindNumber (head .object) ∷ head .n ∷ head .h ∷ head .capacity ∷ methodBytes (head .version) (head .method))
 
 -- the whole file
 unfoldable pub bytesOf : Fields → List ℕ
@@ -43,9 +55,9 @@ bytesOf f =
 abbrev pub Byte : ℕ → Type 0
 Byte b = b < 256
 
--- the refusals that a file can be given, 1 to 12
+-- the refusals that a file can be given, 1 to 12 and 15
 abbrev pub Tabled : ℕ → Type 0
-Tabled refusal = (1 ≤ refusal) × (refusal ≤ 12)
+Tabled refusal = (1 ≤ refusal) × (refusal ≤ 15) × (refusal ≡ 13 → ⊥) × (refusal ≡ 14 → ⊥)
 
 -- queue and stack know put and take, the counter add; a value is a number of 32 bits
 abbrev pub RequestInRange : Kind → Request → Type 0
@@ -70,11 +82,13 @@ CapacityInRange Queue capacity = (1 ≤ capacity) × (capacity ≤ 64)
 CapacityInRange Stack capacity = (1 ≤ capacity) × (capacity ≤ 64)
 CapacityInRange Counter capacity = capacity ≡ 0
 
--- n 1 to 16, h 1 to 255
+-- version 1 or 2, n 1 to 16, h 1 to 255; version 1 means CC-Synch
 pub record HeadInRange (head : Head) : Type 0 where
+  pub version : (1 ≤ head .version) × (head .version ≤ 2)
   pub n : (1 ≤ head .n) × (head .n ≤ 16)
   pub h : (1 ≤ head .h) × (head .h ≤ 255)
   pub capacity : CapacityInRange (head .object) (head .capacity)
+  pub method : head .version ≡ 1 → head .method ≡ CcSynch
 
 -- the fields in range: a row for each thread, at most 32,768 entries, each a thread's
 pub record InRange (f : Fields) : Type 0 where
@@ -83,3 +97,11 @@ pub record InRange (f : Fields) : Type 0 where
   pub rows : Each (RowInRange (f .head .object)) (f .rows)
   pub entries : length (f .schedule) ≤ 32768
   pub schedule : Each (λ thread. thread < f .head .n) (f .schedule)
+
+-- the same fields in a file of a given version
+abbrev pub inVersion : ℕ → Fields → Fields
+inVersion version f = record {
+  head = record { version = version; object = f .head .object; n = f .head .n; h = f .head .h; capacity = f .head .capacity; method = f .head .method };
+  rows = f .rows;
+  schedule = f .schedule;
+}

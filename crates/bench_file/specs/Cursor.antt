@@ -5,6 +5,11 @@ use mathlib.Core.List.{List, [], _∷_}
 use lib.ListN.{length, drop}
 use lib.Dec.{eqb}
 use Rattle.bench_file.specs.declared.Head.{Head}
+use Rattle.machine.specs.declared.Method.{Method}
+use Rattle.bench_file.specs.declared.StartRead.{StartRead}
+use Rattle.bench_file.specs.declared.StartRead.the-variants as StartRead
+use Rattle.bench_file.specs.declared.MethodRead.{MethodRead}
+use Rattle.bench_file.specs.declared.MethodRead.the-variants as MethodRead
 use Rattle.bench_file.specs.declared.ByteRead.{ByteRead}
 use Rattle.bench_file.specs.declared.ByteRead.the-variants as ByteRead
 use Rattle.bench_file.specs.declared.HeadRead.{HeadRead}
@@ -34,14 +39,29 @@ abbrev pub byteRead : List ℕ → ℕ → ByteRead → Outcome ℕ
 byteRead bytes at (ByteRead.Byte b) = read b (drop (at + 1) bytes)
 byteRead bytes at (ByteRead.Refused refusal) = refused refusal
 
--- bytes 0 to 8, or their refusal
+-- the version, which ends with byte 4, or the refusal
+abbrev pub startRead : List ℕ → StartRead → Outcome ℕ
+startRead bytes (StartRead.Version version) = read version (drop 5 bytes)
+startRead bytes (StartRead.Refused refusal) = refused refusal
+
+-- the method, the last of the head, or its refusal
+abbrev pub methodRead : List ℕ → ℕ → MethodRead → Outcome Method
+methodRead bytes version (MethodRead.Known method) = read method (drop (headLength version) bytes)
+methodRead bytes version (MethodRead.Refused refusal) = refused refusal
+
+-- a method that was read lies within the bytes
+abbrev pub MethodInside : List ℕ → ℕ → MethodRead → Type 0
+MethodInside bytes version (MethodRead.Known method) = headLength version ≤ length bytes
+MethodInside bytes version (MethodRead.Refused refusal) = Unit
+
+-- the head, or its refusal
 abbrev pub headRead : List ℕ → HeadRead → Outcome Head
-headRead bytes (HeadRead.Whole head) = read head (drop headLength bytes)
+headRead bytes (HeadRead.Whole head) = read head (drop (headLength (head .version)) bytes)
 headRead bytes (HeadRead.Refused refusal) = refused refusal
 
 -- a head that was read lies within the bytes
 abbrev pub HeadInside : List ℕ → HeadRead → Type 0
-HeadInside bytes (HeadRead.Whole head) = headLength ≤ length bytes
+HeadInside bytes (HeadRead.Whole head) = headLength (head .version) ≤ length bytes
 HeadInside bytes (HeadRead.Refused refusal) = Unit
 
 -- how many requests or entries were read, and the place behind them

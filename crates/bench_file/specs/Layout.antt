@@ -1,17 +1,20 @@
--- The bench file, version 1: its fields, and what a list of bytes is judged to be, front to back.
+-- The bench file, of version 1 or 2: its fields, and what a list of bytes is judged to be, front to back.
 use Prim.Native.Nat.{ℕ}
-use mathlib.Core.Bool.{Bool, _&&_}
+use mathlib.Core.Bool.{Bool, _&&_, cond}
 use mathlib.Core.List.{List}
 use lib.ListN.{length, getD}
 use lib.Dec.{leb, ltb, eqb}
 use Rattle.object.specs.declared.Kind.{Kind}
 use Rattle.object.specs.declared.Request.{Request}
 use Rattle.object.specs.Each.{sumOf}
-use Rattle.object.specs.Paper.{kindOf, requestOf, leastCode, mostCode, valueAllowed, leastCapacity, mostCapacity}
+use Rattle.object.specs.Paper.{within, kindOf, requestOf, leastCode, mostCode, valueAllowed, leastCapacity, mostCapacity}
+use Rattle.machine.specs.declared.Method.{Method}
+use Rattle.machine.specs.declared.Method.the-variants.{CcSynch}
+use Rattle.machine.specs.Methods.{methodOf}
 use Rattle.bench_file.specs.declared.Head.{Head}
 use Rattle.bench_file.specs.Reading.{Outcome, refused, read, Reader, _>>=_, _>>_, done, rule, field, number, ruledByte, ranged, several, end}
 
--- the fields of a bench file: object, n, h and capacity; a row of requests for each thread; the thread of each schedule entry
+-- the fields of a bench file: version, object, n, h, capacity and method; a row of requests for each thread; the thread of each schedule entry
 pub record Fields : Type 0 where
   pub head : Head
   pub rows : List (List Request)
@@ -21,36 +24,46 @@ pub record Fields : Type 0 where
 abbrev pub requestsOf : Fields → ℕ
 requestsOf f = sumOf length (f .rows)
 
--- the head is so many bytes: the rows of requests begin behind them
-abbrev pub headLength : ℕ
-headLength = 9
+-- the versions that there are, 1 and 2
+abbrev pub versionKnown : ℕ → Bool
+versionKnown version = within 1 version 2
+
+-- the head of a version is so many bytes, and the rows of requests begin behind them: version 1 has no byte for the method
+abbrev pub headLength : ℕ → ℕ
+headLength version = cond (eqb version 1) 9 10
 
 -- the mark, `43 43 53`, is one field
 abbrev pub isMark : List ℕ → Bool
 isMark bs = eqb (getD bs 0 0) 0x43 && eqb (getD bs 1 0) 0x43 && eqb (getD bs 2 0) 0x53
 
 -- bytes 0 to 4: mark and version
-unfoldable pub startReader : Reader Unit
+unfoldable pub startReader : Reader ℕ
 startReader = do
   mark ← field 3
   rule 2 (isMark mark)
   version ← number 2
-  rule 3 (eqb version 1)
+  rule 3 (versionKnown version)
+  done version
 
--- bytes 6 to 8: n, h and the capacity
-unfoldable pub limitsReader : Kind → Reader Head
-limitsReader object = do
+-- the method: a byte in version 2, where version 1 means CC-Synch
+abbrev pub methodReader : ℕ → Reader Method
+methodReader version = cond (eqb version 1) (done CcSynch) (ranged 15 0 1 >>= λ number. done (methodOf number))
+
+-- from byte 6 on: n, h, the capacity and the method
+unfoldable pub limitsReader : ℕ → Kind → Reader Head
+limitsReader version object = do
   n ← ranged 5 1 16
   h ← ranged 6 1 255
   capacity ← ranged 7 (leastCapacity object) (mostCapacity object)
-  done (record { object = object; n = n; h = h; capacity = capacity })
+  method ← methodReader version
+  done (record { version = version; object = object; n = n; h = h; capacity = capacity; method = method })
 
--- bytes 0 to 8
+-- all bytes before the rows
 unfoldable pub headReader : Reader Head
 headReader = do
-  startReader
+  version ← startReader
   object ← ranged 4 0 2
-  limitsReader (kindOf object)
+  limitsReader version (kindOf object)
 
 -- a request is two fields, code and value
 unfoldable pub requestReader : Kind → Reader Request

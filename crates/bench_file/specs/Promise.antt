@@ -1,5 +1,5 @@
--- What `judge` promises of its answer, beside document 01's number and counts for each of the answer's cases.
-use Prim.Native.Nat.{ℕ, _≤_}
+-- What `judge` promises of its answer, beside the papers' number and counts for each of the answer's cases.
+use Prim.Native.Nat.{ℕ}
 use mathlib.Core.Path.{_≡_}
 use mathlib.Core.Logic.{_↔_}
 use mathlib.Core.List.{List}
@@ -7,7 +7,7 @@ use lib.ListN.{length}
 use Rattle.bench_file.specs.declared.Judged.{Judged}
 use Rattle.bench_file.specs.declared.Judged.the-variants as Judged
 use Rattle.bench_file.specs.Layout.{Fields, requestsOf, Judgement, accepted, refusedBy, judgeOf}
-use Rattle.bench_file.specs.Bytes.{InRange, bytesOf}
+use Rattle.bench_file.specs.Bytes.{Tabled, InRange, bytesOf}
 
 -- the answer for a judgement: head, requests in all and entries of the fields, or the refusal
 abbrev pub judgedAs : Judgement → Judged
@@ -35,6 +35,6 @@ pub record Judges (bytes : List ℕ) (r : Judged) : Type 0 where
   -- its counts are the requests and the entries of the fields; a refusal has its number, and all counts 0
   pub counts : (f : Fields) → judgeOf bytes ≡ accepted f → (judgedRequests r ≡ requestsOf f) × (judgedEntries r ≡ length (f .schedule))
   pub refused : (refusal : ℕ) → judgeOf bytes ≡ refusedBy refusal → (judgedRefusal r ≡ refusal) × (judgedRequests r ≡ 0) × (judgedEntries r ≡ 0)
-  -- a refusal's number is one of the table, 1 to 12, so that 0 means accepted
-  pub numbers : judgedRefusal r ≤ 12
+  -- a refusal's number is 1 to 12 or 15, so that 0 means accepted
+  pub numbers : (judgedRefusal r ≡ 0 → ⊥) → Tabled (judgedRefusal r)
   pub zero : judgedRefusal r ≡ 0 → (f : Fields) × (judgeOf bytes ≡ accepted f)

@@ -1,23 +1,23 @@
-// Bench files of version 1, judged front to back.
+// Bench files of version 1 and 2, judged front to back.
+use machine::Method;
 use object::Kind;
 ghost use mathlib.Core.Path.{_≡_};
 ghost use Prim.Native.Nat.{_+_, _≤_, _<_};
 ghost use lib.ListN.{length, take, drop};
 ghost use Rattle.object.specs.Each.{sumOf};
 ghost use Rattle.bench_file.specs.Reading.{littleEndian, ranged, several};
-ghost use Rattle.bench_file.specs.Layout.{headLength, isMark, startReader, limitsReader, headReader, requestReader, rowReader, entryReader, scheduleReader};
+ghost use Rattle.bench_file.specs.Layout.{versionKnown, headLength, isMark, startReader, methodReader, limitsReader, headReader, requestReader, rowReader, entryReader, scheduleReader};
 ghost use Rattle.bench_file.specs.Promise.{Judges};
-ghost use Rattle.bench_file.specs.Cursor.{numberRead, byteRead, headRead, HeadInside, reached, Ahead, tallied, single, scheduleAs, rowsAs};
+ghost use Rattle.bench_file.specs.Cursor.{byteRead, startRead, methodRead, MethodInside, headRead, HeadInside, reached, Ahead, tallied, single, scheduleAs, rowsAs};
 
-// The bytes of a file's head: mark, version, object, n, h and capacity. The rows of requests begin behind them.
-pub const HEAD_BYTES: usize = 9;
-
-// Bytes 5 to 8 of a bench file.
+// What a bench file says before its rows of requests.
 pub struct Head {
+    pub version: u16,
     pub object: Kind,
     pub n: u8,
     pub h: u8,
     pub capacity: u8,
+    pub method: Method,
 }
 
 // A field of one byte, or the refusal.
@@ -26,7 +26,19 @@ enum ByteRead {
     Refused(u8),
 }
 
-// Bytes 0 to 8, or the refusal.
+// Mark and version, or the refusal.
+enum StartRead {
+    Version(u16),
+    Refused(u8),
+}
+
+// The method, or the refusal.
+enum MethodRead {
+    Known(Method),
+    Refused(u8),
+}
+
+// The head, or the refusal.
 enum HeadRead {
     Whole(Head),
     Refused(u8),
@@ -46,6 +58,26 @@ pub enum Judged {
         entries: usize,
     },
     Refused(u8),
+}
+
+// How many bytes a file's head has. The rows of requests begin behind them; from version 2 on the last is the method's.
+pub fn head_bytes(version: u16) -> usize
+    ensures { λ r. ⌜ r ≡ headLength version ⌝ }
+{
+    if version == 1 {
+        return 9;
+    }
+    10
+}
+
+// Whether a version is 1 or 2.
+pub fn version_known(version: u16) -> bool
+    ensures { λ r. ⌜ r ≡ versionKnown version ⌝ }
+{
+    if version < 1 {
+        return false;
+    }
+    version <= 2
 }
 
 // The field of one byte at a place: 1 where it is cut off, the given refusal where it is outside its range.
@@ -99,28 +131,44 @@ fn is_mark(s: &[u8]) -> bool
     s[2] == 0x53
 }
 
-// Mark and version: 0, or the refusal.
-fn read_start(s: &[u8]) -> u8
-    ensures { λ r. ⌜ numberRead (now (s .entry)) 5 r ≡ startReader (now (s .entry)) ⌝ }
+// Mark and version.
+fn read_start(s: &[u8]) -> StartRead
+    ensures { λ r. ⌜ startRead (now (s .entry)) r ≡ startReader (now (s .entry)) ⌝ }
 {
     if s.len() < 3 {
-        return 1;
+        return StartRead::Refused(1);
     }
     if !is_mark(s) {
-        return 2;
+        return StartRead::Refused(2);
     }
     if s.len() < 5 {
-        return 1;
+        return StartRead::Refused(1);
     }
-    if number2(s, 3) != 1 {
-        return 3;
+    let version = number2(s, 3) as u16;
+    if version_known(version) {
+        return StartRead::Version(version);
     }
-    0
+    StartRead::Refused(3)
 }
 
-// Bytes 6 to 8, behind an object byte that is in range.
-fn read_limits(s: &[u8], object: Kind) -> HeadRead
-    ensures { λ r. ⌜ headRead (now (s .entry)) r ≡ limitsReader object (drop 6 (now (s .entry))) ⌝ }
+// The method, behind the capacity.
+fn read_method(s: &[u8], version: u16) -> MethodRead
+    requires { ⌜ 9 ≤ length (now s) ⌝ }
+    ensures { λ r. ⌜ methodRead (now (s .entry)) version r ≡ methodReader version (drop 9 (now (s .entry))) ⌝ }
+    ensures { λ r. ⌜ MethodInside (now (s .entry)) version r ⌝ }
+{
+    if version == 1 {
+        return MethodRead::Known(Method::CcSynch);
+    }
+    match byte_in(s, 9, 15, 0, 1) {
+        ByteRead::Byte(b) => MethodRead::Known(machine::method_of(b)),
+        ByteRead::Refused(refusal) => MethodRead::Refused(refusal),
+    }
+}
+
+// From byte 6 on: n, h, the capacity and the method, behind an object byte that is in range.
+fn read_limits(s: &[u8], version: u16, object: Kind) -> HeadRead
+    ensures { λ r. ⌜ headRead (now (s .entry)) r ≡ limitsReader version object (drop 6 (now (s .entry))) ⌝ }
     ensures { λ r. ⌜ HeadInside (now (s .entry)) r ⌝ }
 {
     let n = match byte_in(s, 6, 5, 1, 16) {
@@ -137,28 +185,38 @@ fn read_limits(s: &[u8], object: Kind) -> HeadRead
     };
     let least = object::least_capacity(object);
     let most = object::most_capacity(object);
-    match byte_in(s, 8, 7, least, most) {
-        ByteRead::Byte(capacity) => HeadRead::Whole(Head {
+    let capacity = match byte_in(s, 8, 7, least, most) {
+        ByteRead::Byte(b) => b,
+        ByteRead::Refused(refusal) => {
+            return HeadRead::Refused(refusal);
+        }
+    };
+    match read_method(s, version) {
+        MethodRead::Known(method) => HeadRead::Whole(Head {
+            version,
             object,
             n,
             h,
             capacity,
+            method,
         }),
-        ByteRead::Refused(refusal) => HeadRead::Refused(refusal),
+        MethodRead::Refused(refusal) => HeadRead::Refused(refusal),
     }
 }
 
-// Bytes 0 to 8.
+// All bytes before the rows.
 fn read_head(s: &[u8]) -> HeadRead
     ensures { λ r. ⌜ headRead (now (s .entry)) r ≡ headReader (now (s .entry)) ⌝ }
     ensures { λ r. ⌜ HeadInside (now (s .entry)) r ⌝ }
 {
-    let start = read_start(s);
-    if start != 0 {
-        return HeadRead::Refused(start);
-    }
+    let version = match read_start(s) {
+        StartRead::Version(version) => version,
+        StartRead::Refused(refusal) => {
+            return HeadRead::Refused(refusal);
+        }
+    };
     match byte_in(s, 5, 4, 0, 2) {
-        ByteRead::Byte(b) => read_limits(s, object::kind_of(b)),
+        ByteRead::Byte(b) => read_limits(s, version, object::kind_of(b)),
         ByteRead::Refused(refusal) => HeadRead::Refused(refusal),
     }
 }
@@ -344,11 +402,11 @@ fn judge_schedule(s: &[u8], at: usize, head: Head, requests: usize) -> Judged
 
 // From the rows on.
 fn judge_rows(s: &[u8], head: Head) -> Judged
-    requires { ⌜ headLength ≤ length (now s) ⌝ }
-    ensures { λ r. ⌜ r ≡ rowsAs head (tallied (sumOf length) (several (head .n) (rowReader (head .object)) (drop headLength (now (s .entry))))) ⌝ }
+    requires { ⌜ headLength (head .version) ≤ length (now s) ⌝ }
+    ensures { λ r. ⌜ r ≡ rowsAs head (tallied (sumOf length) (several (head .n) (rowReader (head .object)) (drop (headLength (head .version)) (now (s .entry))))) ⌝ }
 {
     let object = head.object;
-    match read_rows(s, HEAD_BYTES, object, head.n) {
+    match read_rows(s, head_bytes(head.version), object, head.n) {
         Reached::At { next, count } => judge_schedule(s, next, head, count),
         Reached::Refused(refusal) => Judged::Refused(refusal),
     }

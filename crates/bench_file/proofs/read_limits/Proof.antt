@@ -1,13 +1,14 @@
 -- `bench_file::read_limits` meets its contract: the fields before a return were read, and the one that it stops at was refused.
 -- Assumes nothing.
-use mathlib.Core.Path.{_≡_}
+use mathlib.Core.Path.{_≡_, sym, ap, _∙_}
 use mathlib.Core.List.{List}
 use Prim.Native.Nat.{ℕ}
 use lib.ListN.{drop}
 use borrow.Author.Needs.{needs}
-use Rattle.bench_file.specs.Reading.{read, ranged}
-use Rattle.bench_file.specs.Layout.{limitsReader}
-use Rattle.bench_file.proofs.Reading.{byte-was, inside}
+use Rattle.bench_file.specs.Reading.{read, after, done, ranged}
+use Rattle.bench_file.specs.Layout.{methodReader, limitsReader}
+use Rattle.bench_file.specs.Cursor.{methodRead}
+use Rattle.bench_file.proofs.Reading.{after-read, after-refused, byte-was, inside}
 use Rattle.bench_file.proofs.read_limits.Statement.{statement}
 use Rattle.bench_file.proofs.read_limits.Tie as tie
 
@@ -19,6 +20,35 @@ n-read c = byte-was (bytes c) 6 (c .before .before .before .byte-in .ensures) (c
 
 h-read : (c : tie.After-known-told3) → let d = c .before .before .before .before in ranged 6 1 255 (drop 7 (bytes d)) ≡ read (c .before .b2 .given .0 .0) (drop 8 (bytes d))
 h-read c = byte-was (bytes (c .before .before .before .before)) 7 (c .before .before .before .byte-in2 .ensures) (c .before .b2 .given .1)
+
+-- behind the capacity: what stands before it was read
+abbrev most : tie.After-known-told5 → tie.After-most-capacity
+most c = c .before .before .before .before
+
+abbrev given : tie.After-known-told5 → tie.After-known-told
+given c = most c .before .before .before .before .before .before
+
+abbrev version : tie.After-known-told5 → ℕ
+version c = given c .before .before .before .before .before .args .version
+
+capacity-read : (c : tie.After-known-told5) → let m = most c in
+    ranged 7 (m .before .least-capacity .result) (m .most-capacity .result) (drop 8 (bytes (given c))) ≡ read (c .before .b3 .given .0 .0) (drop 9 (bytes (given c)))
+capacity-read c = byte-was (bytes (given c)) 8 (c .before .before .before .byte-in3 .ensures) (c .before .b3 .given .1)
+
+limits : (c : tie.After-known-told5) → let a = given c .before .before .before .before .before .args in
+    limitsReader (version c) (a .object) (drop 6 (bytes (given c)))
+    ≡ after (methodReader (version c) (drop 9 (bytes (given c)))) (λ method. done (record {
+      version = version c;
+      object = a .object;
+      n = given c .before .b .given .0 .0;
+      h = most c .before .before .before .b2 .given .0 .0;
+      capacity = c .before .b3 .given .0 .0;
+      method = method;
+    }))
+unfolding limitsReader
+limits c =
+    let m = most c in
+    simp (n-read (given c), h-read (m .before .before), ← m .most-capacity .ensures, ← m .before .least-capacity .ensures, capacity-read c)
 
 byte-in-requires : tie.Need-byte-in-requires
 byte-in-requires c κs = search needs
@@ -58,8 +88,8 @@ most-capacity-requires c κs = search needs
 byte-in-requires-3 : tie.Need-byte-in-requires-3
 byte-in-requires-3 c κs = search needs
 
-enum-known-capacity : tie.Need-enum-known-capacity
-enum-known-capacity c = search needs
+enum-known-b-3 : tie.Need-enum-known-b-3
+enum-known-b-3 c = search needs
 
 enum-known-refusal-3 : tie.Need-enum-known-refusal-3
 enum-known-refusal-3 c = search needs
@@ -70,16 +100,30 @@ returns-3 c =
     let m = c .before .before .before .before in
     let e = m .before .before in
     let d = e .before .before .before .before in
-    let f = byte-was (bytes d) 8 (c .before .before .before .byte-in3 .ensures) (c .before .capacity .given .1) in
-    (simp (n-read d, h-read e, ← m .most-capacity .ensures, ← m .before .least-capacity .ensures, f), inside (bytes d) 8 7 _ f)
+    (simp (n-read d, h-read e, ← m .most-capacity .ensures, ← m .before .least-capacity .ensures, byte-was (bytes d) 8 (c .before .before .before .byte-in3 .ensures) (c .before .refusal3 .given .1)), tt)
+
+read-method-requires : tie.Need-read-method-requires
+read-method-requires c κs = inside (bytes (given c)) 8 7 _ (capacity-read c)
+
+enum-known-method : tie.Need-enum-known-method
+enum-known-method c = search needs
+
+enum-known-refusal-4 : tie.Need-enum-known-refusal-4
+enum-known-refusal-4 c = search needs
 
 returns-4 : tie.Need-returns-4
-unfolding limitsReader
 returns-4 c =
-    let m = c .before .before .before .before in
-    let e = m .before .before in
-    let d = e .before .before .before .before in
-    (simp (n-read d, h-read e, ← m .most-capacity .ensures, ← m .before .least-capacity .ensures, byte-was (bytes d) 8 (c .before .before .before .byte-in3 .ensures) (c .before .refusal3 .given .1)), tt)
+    let m = c .before .before .before in
+    let k = m .before in
+    let is = sym (m .read-method .ensures .0) ∙ ap (methodRead (bytes (given k)) (version k)) (c .before .method .given .1) in
+    (sym (limits k ∙ after-read _ is), rw (c .before .method .given .1) at (m .read-method .ensures .1))
+
+returns-5 : tie.Need-returns-5
+returns-5 c =
+    let m = c .before .before .before in
+    let k = m .before in
+    let is = sym (m .read-method .ensures .0) ∙ ap (methodRead (bytes (given k)) (version k)) (c .before .refusal4 .given .1) in
+    (sym (limits k ∙ after-refused _ is), tt)
 
 pub read-limits-spec : {M : Type 1} → statement M
 read-limits-spec =
@@ -96,7 +140,11 @@ read-limits-spec =
     least-capacity-requires
     most-capacity-requires
     byte-in-requires-3
-    enum-known-capacity
+    enum-known-b-3
     enum-known-refusal-3
     returns-3
-    returns-4)
+    read-method-requires
+    enum-known-method
+    enum-known-refusal-4
+    returns-4
+    returns-5)
