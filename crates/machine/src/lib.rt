@@ -6,6 +6,7 @@ ghost use Rattle.machine.specs.Accesses.{pointedOf, rowFrom, isNone, wri
 ghost use Rattle.machine.specs.Events.{eventNumber, sameEvent, stays, isCas, eventFound};
 ghost use Rattle.machine.specs.Lines.{lineRun};
 ghost use Rattle.machine.specs.Methods.{methodNumber, methodOf, lastLine};
+ghost use Rattle.machine.specs.Fields.{withReq, withRet};
 use object::Answer;
 use object::Request;
 
@@ -185,6 +186,35 @@ pub fn is_empty_ret(ret: RetVal) -> bool
     match ret {
         RetVal::NoAnswer => true,
         RetVal::Answered(_) => false,
+    }
+}
+
+// A node with its req or its ret written.
+pub fn with_req(node: Node, request: Request) -> Node
+    ensures { λ r. ⌜ r ≡ withReq node request ⌝ }
+{
+    let ret = node.ret;
+    let next = node.next;
+    Node {
+        req: Announced::Asked(request),
+        ret,
+        wait: node.wait,
+        completed: node.completed,
+        next,
+    }
+}
+
+pub fn with_ret(node: Node, answer: Answer) -> Node
+    ensures { λ r. ⌜ r ≡ withRet node answer ⌝ }
+{
+    let req = node.req;
+    let next = node.next;
+    Node {
+        req,
+        ret: RetVal::Answered(answer),
+        wait: node.wait,
+        completed: node.completed,
+        next,
     }
 }
 

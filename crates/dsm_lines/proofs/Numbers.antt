@@ -5,7 +5,7 @@ use mathlib.Core.Path.{_≡_, refl}
 use mathlib.Core.List.{_∷_}
 use Rattle.object.specs.Each.{Each}
 use Rattle.machine.proofs.Lines.{number-at, each-of, by-number}
-use Rattle.dsm_synch.specs.Lines.{Line, printed, lineOf, number, L0, L1, L2, L3, L4, L5, L6, L7, L8, L9, L10, L11, L12, L13, L14, L15, L16, L17, L18, L19, L20, L21, L22, L23, L24, L25, L26, L27, L28}
+use Rattle.dsm_lines.specs.Lines.{Line, printed, lineOf, number, L0, L1, L2, L3, L4, L5, L6, L7, L8, L9, L10, L11, L12, L13, L14, L15, L16, L17, L18, L19, L20, L21, L22, L23, L24, L25, L26, L27, L28}
 
 pub number-of : (k : ℕ) → k ≤ 28 → number (lineOf k) ≡ k
 number-of k h = omega (arith, number-at number L0 0 (L0 ∷ printed) k (omega arith) (omega arith))
