@@ -24,7 +24,7 @@ use Rattle.step.proofs.Soundness.{Sound}
 use Rattle.history.specs.Entries.{Entry, threadId, remoteIn}
 use Rattle.history.specs.Copies.{copyAfter, validCopy, remoteSaid}
 use Rattle.history.proofs.Copies.{said-same, all-after, remote-marks}
-use Rattle.claims.specs.Entries.{entryOf, startOf}
+use Rattle.claims.specs.Entries.{entryOf, startBy}
 use Rattle.claims.proofs.Counted.{remote-ones}
 use Rattle.claims.proofs.Filled.{padded}
 
@@ -33,10 +33,10 @@ pub record CopiesSaid (n : ℕ) (copies : List ℕ) (past : List Entry) : Type 0
   pub said : (u : ℕ) (l : Location) → u < n → hasCopyOf copies u l ≡ validCopy (threadId u) l past
 
 -- at the start no thread has a valid copy of any location: document 01's words
-pub none-at-start : (f : Fields) (u : ℕ) (l : Location) → hasCopyOf (startOf f .copies) u l ≡ false
+pub none-at-start : (f : Fields) (u : ℕ) (l : Location) → hasCopyOf (startBy CcSynch f .copies) u l ≡ false
 none-at-start f u l = ap (λ (w : ℕ). hasCopy w u) (padded 0 mostLocations (place l)) ∙ none-held u
 
-pub copies-fresh : (f : Fields) → CopiesSaid (f .head .n) (startOf f .copies) []
+pub copies-fresh : (f : Fields) → CopiesSaid (f .head .n) (startBy CcSynch f .copies) []
 copies-fresh f = record { said = λ u l h. none-at-start f u l }
 
 -- a step by the copies that its state has, of any sound state: its remote references are those of its accesses, one after the other, and so are the copies
@@ -47,9 +47,9 @@ pub record StepSaid (s : State) (t : ThreadId) : Type 0 where
   pub copies : (u : ℕ) (l : Location) → u < s .n
       → hasCopyOf (entered s t .copies) u l ≡ copyAfter (threadId u) l t (accesses s t) (hasCopyOf (s .copies) u l)
 
-module _ (s : State) (t : ThreadId) (sound : Sound s) (below : t .0 < s .n) where
+module _ (s : State) (t : ThreadId) (sound : Sound CcSynch s) (below : t .0 < s .n) where
   few : s .n ≤ 16
-  few = state-fits s (sound .range) .small
+  few = state-fits CcSynch s (sound .range) .small
 
   inside : Each (Inside (s .copies)) (accesses s t)
   inside =

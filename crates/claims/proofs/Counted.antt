@@ -44,13 +44,11 @@ module _ (m : Method) (n t : ℕ) where
 
 -- the marks of an entry and what the state counts, both of the entry's accesses
 pub marks-of : (m : Method) (s : State) (t : ThreadId) → entryBy m s t .remote ≡ remoteMarks m (s .n) (t .0) (s .copies) (entryBy m s t .accesses)
-marks-of CcSynch s t = refl
-marks-of DsmSynch s t = refl
+marks-of m s t = refl
 
 counts-of : (m : Method) (s : State) (t : ThreadId)
     → enteredBy m s t .counts ≡ plus (s .counts) (moreOf (entryBy m s t .event) (referredBy m (s .n) (t .0) (s .copies) (entryBy m s t .accesses) .remote))
-counts-of CcSynch s t = refl
-counts-of DsmSynch s t = refl
+counts-of m s t = refl
 
 -- an entry makes at most three accesses, so at most three remote references
 entry-few : (m : Method) (s : State) (t : ThreadId) → Few (entryBy m s t)

@@ -27,8 +27,7 @@ entries-cut m s (suc j) (t ∷ schedule) = ap (λ (l : List Entry). entryBy m s 
 
 -- an entry is of the thread that the schedule names
 pub entry-thread : (m : Method) (s : State) (t : ThreadId) → entryBy m s t .thread ≡ t
-entry-thread CcSynch s t = refl
-entry-thread DsmSynch s t = refl
+entry-thread m s t = refl
 
 -- in its place
 pub entries-named : (m : Method) (s : State) (schedule : List ℕ) → map (λ (e : Entry). e .thread .0) (entriesFrom m s schedule) ≡ schedule

@@ -68,7 +68,7 @@ pub record Layers (f : Fields) (s : State) (past : List Entry) : Type 0 where
   pub ledger : Ledger
   pub cost : ℕ → ℕ
   pub answers : List Answer
-  pub sound : Sound s
+  pub sound : Sound CcSynch s
   pub control : Control (s .n) (s .h) (viewOf s) ledger
   pub remote : Remote (s .n) (viewOf s) ledger (s .copies) cost
   pub object : Data (s .n) (asks f) (s .kind) (s .capacity) (viewOf s) ledger (jobsOf f past) answers (s .object)
@@ -125,7 +125,7 @@ module _ (f : Fields) (fits : InRange f) (s : State) (past : List Entry) (t : Th
   applies-by-row = by-row (row s t .event) (node s t) Applies (omega arith)
 
   few : s .n ≤ 16
-  few = state-fits s (now .sound .range) .small
+  few = state-fits CcSynch s (now .sound .range) .small
 
   some : 0 < s .h
   some = omega (arith, going .h, fits .head .h)
@@ -139,11 +139,11 @@ module _ (f : Fields) (fits : InRange f) (s : State) (past : List Entry) (t : Th
 
   -- the node's req is one that the object knows, or empty
   req-known : reqInRange (s .kind) (node s t .req) ≡ true
-  req-known = node-fits s t (now .sound .shape) (now .sound .range) below .req
+  req-known = node-fits CcSynch s t (now .sound .shape) (now .sound .range) below .req
 
   does-asked : Does (s .n) (s .h) (viewOf s) (viewOf after) (t .0) l (openRequest (asks f) (viewOf s) (t .0)) (applied s t .answer)
   does-asked =
-      subst (λ (q : Request). Does (s .n) (s .h) (viewOf s) (viewOf after) (t .0) l q (applied s t .answer)) (request-going f s past t fits going (begun-few s t (now .sound .shape) (now .sound .range) below)) does
+      subst (λ (q : Request). Does (s .n) (s .h) (viewOf s) (viewOf after) (t .0) l q (applied s t .answer)) (request-going f s past t fits going (begun-few CcSynch s t (now .sound .shape) (now .sound .range) below)) does
 
   -- what the row applies is what the entry does
   applied-by-row : appliedBy (s .kind) (s .capacity) (s .object) (viewOf s) (t .0) l ≡ applied s t
@@ -157,7 +157,7 @@ module _ (f : Fields) (fits : InRange f) (s : State) (past : List Entry) (t : Th
       let by-line-applied = appliedBy (s .kind) (s .capacity) (s .object) (viewOf s) (t .0) l in
       let does-row = subst (λ (a : Applied). Does (s .n) (s .h) (viewOf s) (viewOf after) (t .0) l (openRequest (asks f) (viewOf s) (t .0)) (a .answer)) (sym applied-by-row) does-asked in
       let kept = data-kept (now .control) (now .object) {v′ = viewOf after} {t = t .0} l does-row
-      (state-fits s (now .sound .range) .held) (now .sound .shape .items) req-known in
+      (state-fits CcSynch s (now .sound .range) .held) (now .sound .shape .items) req-known in
       let jobs = ap (λ (b : Bool). grown b (jobsOf f past) (openRequest (asks f) (viewOf s) (t .0))) (sym swaps-by-row) ∙ sym (jobs-next moved f (now .chronicle .swaps)) in
       let answers =
       ap (λ (a : Applied). grown (sameEvent (row s t .event) Applies) (now .answers) (a .answer)) applied-by-row
@@ -225,7 +225,7 @@ module _ (f : Fields) (fits : InRange f) (s : State) (past : List Entry) (t : Th
     ledger = next;
     cost = costs;
     answers = answers-next;
-    sound = one-sound s t (now .sound) below stays (next-fits CcSynch s past t (going .counted) short);
+    sound = one-sound CcSynch s t (going .method) (now .sound) below stays (next-fits CcSynch s past t (going .counted) short);
     control = control-kept (s .n) (s .h) few some (viewOf s) (viewOf after) (now .ledger) (t .0) (request s t) (applied s t .answer) (now .control) l does;
     remote = remote-kept few copied (now .control) (now .remote) does;
     object = object-next;

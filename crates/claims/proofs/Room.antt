@@ -9,15 +9,12 @@ use Rattle.object.specs.declared.Request.{Request}
 use Rattle.object.specs.Each.{Each, sumOf}
 use Rattle.bench_file.specs.Layout.{Fields}
 use Rattle.bench_file.specs.Bytes.{RowInRange, InRange}
-use Rattle.history.specs.Entries.{Entry, howMany}
-use Rattle.claims.specs.Entries.{historyOf}
+use Rattle.history.specs.Entries.{Entry}
 use Rattle.history.specs.Terms.{swapAt}
 use Rattle.claims.specs.Claims.{Holds}
 use Rattle.history.proofs.OfCall.{call}
 use Rattle.machine.specs.declared.Method.{Method}
-use Rattle.machine.specs.declared.Event.the-variants.{Swaps}
 use Rattle.machine.specs.Sizes.{mostCalls}
-use Rattle.claims.proofs.Theorem.{claim-whole}
 
 -- the place of p is closed: what is below it goes up by one
 abbrev closed : ℕ → ℕ → ℕ
@@ -75,11 +72,3 @@ rows-few object (row ∷ rows) each = omega (arith, each .0 .count, rows-few obj
 
 pub requests-few : (f : Fields) → InRange f → sumOf length (f .rows) ≤ mostCalls
 requests-few f fits = omega (arith, rows-few (f .head .object) (f .rows) (fits .rows), fits .threads, fits .head .n)
-
--- the Swaps of the whole run
-module _ (f : Fields) (fits : InRange f) where
-  pub all-swaps-asked : howMany Swaps (historyOf f) ≤ sumOf length (f .rows)
-  all-swaps-asked = swaps-few f (claim-whole f fits)
-
-  pub all-swaps-few : howMany Swaps (historyOf f) ≤ mostCalls
-  all-swaps-few = omega (arith, all-swaps-asked, requests-few f fits)

@@ -5,18 +5,12 @@ use native.Mathlib.Omega.{arith}
 use mathlib.Core.Path.{_≡_, refl, _∙_}
 use mathlib.Core.List.{List, [], _∷_, reverse}
 use lib.ListN.{length, take}
-use Rattle.object.specs.declared.Applied.{Applied}
 use Rattle.bench_file.specs.Layout.{Fields}
 use Rattle.bench_file.specs.Bytes.{InRange}
 use Rattle.machine.specs.declared.Method.{Method}
-use Rattle.machine.specs.declared.Method.the-variants.{CcSynch, DsmSynch}
-use Rattle.machine.specs.declared.NodeId.{NodeId}
 use Rattle.machine.specs.declared.ThreadId.{ThreadId}
-use Rattle.machine.specs.declared.Effect.{Effect}
-use Rattle.state.specs.declared.Counts.{Counts}
 use Rattle.state.specs.declared.State.{State}
-use Rattle.step.specs.Entry.{stateWith, named, request, target, effect, applied, references, countsAfter}
-use Rattle.step.specs.DsmEntry as dsm
+use Rattle.step.specs.Entry.{named, request}
 use Rattle.history.specs.Entries.{Entry}
 use Rattle.claims.specs.Entries.{entryBy, startBy, stateAfter, entriesBy}
 use Rattle.step.specs.ByMethod.{enteredBy}
@@ -27,22 +21,19 @@ use Rattle.claims.proofs.Start.{requests-start}
 
 -- what no entry changes
 pub record Fixed (s s′ : State) : Type 0 where
+  pub method : s′ .method ≡ s .method
   pub n : s′ .n ≡ s .n
   pub h : s′ .h ≡ s .h
   pub kind : s′ .kind ≡ s .kind
   pub capacity : s′ .capacity ≡ s .capacity
   pub requests : s′ .requests ≡ s .requests
 
-fixed-with : (s : State) (t : ThreadId) (target : NodeId) (effect : Effect) (applied : Applied) (copies : List ℕ) (counts : Counts)
-    → Fixed s (stateWith s t target effect applied copies counts)
-fixed-with s t target effect applied copies counts = record { n = refl; h = refl; kind = refl; capacity = refl; requests = refl }
-
 pub fixed : (m : Method) (s : State) (t : ThreadId) → Fixed s (enteredBy m s t)
-fixed CcSynch s t = fixed-with s t (target s t) (effect s t) (applied s t) (references s t .copies) (countsAfter s t)
-fixed DsmSynch s t = fixed-with s t (dsm.written s t) (dsm.effect s t) (dsm.applied s t) (dsm.references s t .copies) (dsm.countsAfter s t)
+fixed m s t = record { method = refl; n = refl; h = refl; kind = refl; capacity = refl; requests = refl }
 
 -- a state of a file's run and the entries before it, the latest first: of the file's head and requests, and counted
 pub record Going (m : Method) (f : Fields) (s : State) (past : List Entry) : Type 0 where
+  pub method : s .method ≡ m
   pub n : s .n ≡ f .head .n
   pub h : s .h ≡ f .head .h
   pub kind : s .kind ≡ f .head .object
@@ -58,7 +49,7 @@ request-going {m} f s past t fits going few = rw (going .requests) (requests-sta
 
 pub going-start : (m : Method) (f : Fields) → Going m f (startBy m f) []
 going-start m f =
-    record { n = refl; h = refl; kind = refl; capacity = refl; requests = refl; counted = record { counts = refl; few = tt }; short = omega arith }
+    record { method = refl; n = refl; h = refl; kind = refl; capacity = refl; requests = refl; counted = record { counts = refl; few = tt }; short = omega arith }
 
 -- one more entry
 pub going-next : (m : Method) (f : Fields) (s : State) (past : List Entry) (t : ThreadId) → length past < 32768 → Going m f s past
@@ -66,6 +57,7 @@ pub going-next : (m : Method) (f : Fields) (s : State) (past : List Entry) (t : 
 going-next m f s past t short going =
     let same = fixed m s t in
     record {
+      method = same .method ∙ going .method;
       n = same .n ∙ going .n;
       h = same .h ∙ going .h;
       kind = same .kind ∙ going .kind;

@@ -1,5 +1,5 @@
--- The fresh machine of a file: by either method its threads, nodes and requests and how long its arrays are; of CC-Synch that it is sound, and fresh in the
--- invariant's sense. Assumes fields in range.
+-- The fresh machine of a file: by either method its threads, nodes and requests, how long its arrays are and that it is sound; of CC-Synch that it is
+-- fresh in the invariant's sense. Assumes fields in range.
 use Prim.Native.Nat.{ℕ, zero, suc, _+_, _*_, _≤_, _<_}
 use native.Mathlib.Omega.{arith}
 use native.Mathlib.Nat.{zero-add}
@@ -21,21 +21,22 @@ use Rattle.object.proofs.Each.{each-getD}
 use Rattle.object.proofs.Within.{within-range}
 use Rattle.bench_file.proofs.RoundTrip.{capacity-range, request-known}
 use Rattle.machine.specs.declared.Method.{Method}
-use Rattle.machine.specs.declared.Method.the-variants.{CcSynch}
+use Rattle.machine.specs.declared.Method.the-variants.{CcSynch, DsmSynch}
+use Rattle.machine.specs.Methods.{lastNode, tailNullable}
 use Rattle.machine.specs.Sizes.{mostCalls, mostNodes}
 use Rattle.state.specs.declared.Slot.{Slot}
-use Rattle.state.specs.Range.{slotInRange, rowsInRange, threadInRange, nodeInRange}
+use Rattle.state.specs.Range.{pointerInRange, slotInRange, rowsInRange, threadInRange, nodeInRange}
 use Rattle.state.specs.Shape.{Shaped}
-use Rattle.state.specs.Fresh.{freshThread, freshNode}
+use Rattle.state.specs.Fresh.{freshThread, freshNode, freshTail}
 use Rattle.state.proofs.Kept.{every-first, rows-first}
 use Rattle.state.proofs.Threads.{length-fresh, fresh-at}
-use Rattle.state.proofs.RangeFacts.{NodeOrNull, nowhere, thread-iff}
+use Rattle.state.proofs.RangeFacts.{nowhere, PointersFit, thread-iff, nodes-held}
 use Rattle.step.specs.Entry.{zeroSlot, zeroThread, zeroNode}
 use Rattle.step.proofs.Soundness.{Sound}
 use Rattle.invariant.specs.View.{viewOf}
 use Rattle.invariant.proofs.Start.{Fresh}
 use Rattle.history.specs.Entries.{threadId}
-use Rattle.claims.specs.Entries.{filled, slotsOf, rowsOf, startBy, startOf}
+use Rattle.claims.specs.Entries.{filled, slotsOf, rowsOf, startBy}
 use Rattle.claims.specs.Claims.{askedBy}
 use Rattle.claims.proofs.Filled.{length-filled, filled-at}
 
@@ -102,40 +103,52 @@ module _ (m : Method) (f : Fields) (fits : InRange f) where
     items = refl;
   }
 
--- of CC-Synch
-module _ (f : Fields) (fits : InRange f) where
-  pub fresh-start : Fresh (f .head .n) (viewOf (startOf f))
-  fresh-start = record {
-    line = λ u h. rw (thread-start CcSynch f fits u h);
-    own = λ u h. rw (thread-start CcSynch f fits u h);
-    tail = refl;
-    node = refl;
-  }
+-- of CC-Synch, as its invariant has it
+pub fresh-start : (f : Fields) (fits : InRange f) → Fresh (f .head .n) (viewOf (startBy CcSynch f))
+fresh-start f fits = record {
+  line = λ u h. rw (thread-start CcSynch f fits u h);
+  own = λ u h. rw (thread-start CcSynch f fits u h);
+  tail = refl;
+  node = refl;
+}
 
-  -- every thread, every node and every row of requests is in range
-  threads-fit : every (threadInRange (f .head .n) (f .head .h)) (take (f .head .n) (startOf f .threads)) ≡ true
+-- every number is in range: a fresh thread's variables, and Tail
+pointers-start : (m : Method) (n u count : ℕ) → u < n → PointersFit m (lastNode m n) (freshThread u count) 0
+pointers-start CcSynch n u count h = record { own = omega arith; cur = nowhere refl; tmp = nowhere refl; tmpnext = nowhere refl }
+pointers-start DsmSynch n u count h = record { toggle = omega arith; my = nowhere refl; pred = nowhere refl; tmp = nowhere refl }
+
+tail-start : (m : Method) (n : ℕ) → pointerInRange (lastNode m n) (tailNullable m) (freshTail m) ≡ true
+tail-start CcSynch n = rw (leb·zero n)
+tail-start DsmSynch n = or-true (leb 255 (lastNode DsmSynch n))
+
+module _ (m : Method) (f : Fields) (fits : InRange f) where
+  abbrev last : ℕ
+  last = lastNode m (f .head .n)
+
+  threads-fit : every (threadInRange m last (f .head .h)) (take (f .head .n) (startBy m f .threads)) ≡ true
   threads-fit =
-      every-first (threadInRange (f .head .n) (f .head .h)) zeroThread (f .head .n) (startOf f .threads) (λ u h.
-      rw (thread-start CcSynch f fits u h)
-      (let null : NodeOrNull (f .head .n) 255 = nowhere refl in
-      thread-iff (f .head .n) (f .head .h) (freshThread u (length (getD (f .rows) u []))) .1 (search (arith, row-fits f fits u h))))
+      every-first (threadInRange m last (f .head .h)) zeroThread (f .head .n) (startBy m f .threads) (λ u h.
+      rw (thread-start m f fits u h)
+      (let row = row-fits f fits u h in
+      thread-iff m last (f .head .h) (freshThread u (length (getD (f .rows) u []))) .1
+      (record { few = row .count; counted = omega arith; begun = tt; a-line = refl; pointers = pointers-start m (f .head .n) u (length (getD (f .rows) u [])) h; served = omega arith })))
 
-  nodes-fit : every (nodeInRange (f .head .object) (f .head .capacity) (f .head .n)) (take (f .head .n + 1) (startOf f .nodes)) ≡ true
+  nodes-fit : every (nodeInRange (f .head .object) (f .head .capacity) last) (take (last + 1) (startBy m f .nodes)) ≡ true
   nodes-fit =
-      every-first (nodeInRange (f .head .object) (f .head .capacity) (f .head .n)) zeroNode (f .head .n + 1) (startOf f .nodes) (λ m h.
-      rw (node-start CcSynch f fits m (omega (arith, fits .head .n))) (or-true (leb 255 (f .head .n))))
+      every-first (nodeInRange (f .head .object) (f .head .capacity) last) zeroNode (last + 1) (startBy m f .nodes) (λ i h.
+      rw (node-start m f fits i (omega (arith, nodes-held m (f .head .n) (fits .head .n .0) (fits .head .n .1)))) (or-true (leb 255 last)))
 
-  rows-fit : rowsInRange (f .head .object) (startOf f .requests) 0 (take (f .head .n) (startOf f .threads)) ≡ true
+  rows-fit : rowsInRange (f .head .object) (startBy m f .requests) 0 (take (f .head .n) (startBy m f .threads)) ≡ true
   rows-fit =
-      rows-first (f .head .object) (startOf f .requests) zeroThread 0 (f .head .n) (startOf f .threads) (λ t h.
-      rw (zero-add, thread-start CcSynch f fits t h)
-      (every-first (slotInRange (f .head .object)) zeroSlot (length (getD (f .rows) t [])) (drop (16 * t) (startOf f .requests)) (λ q k.
-      rw (getD-drop, requests-start CcSynch f fits t q (omega (arith, row-few f fits t h)))
+      rows-first (f .head .object) (startBy m f .requests) zeroThread 0 (f .head .n) (startBy m f .threads) (λ t h.
+      rw (zero-add, thread-start m f fits t h)
+      (every-first (slotInRange (f .head .object)) zeroSlot (length (getD (f .rows) t [])) (drop (16 * t) (startBy m f .requests)) (λ q k.
+      rw (getD-drop, requests-start m f fits t q (omega (arith, row-few f fits t h)))
       (row-known f fits t q h k))))
 
-  pub sound-start : Sound (startOf f)
+  pub sound-start : Sound m (startBy m f)
   sound-start = record {
-    shape = shaped-start CcSynch f fits;
+    shape = shaped-start m f fits;
     range =
-        rw (within-range 1 (f .head .n) 16 .1 (fits .head .n), within-range 1 (f .head .h) 255 .1 (fits .head .h), capacity-fits f fits, leb·zero (f .head .capacity), leb·zero (f .head .n), threads-fit, nodes-fit, rows-fit);
+        rw (within-range 1 (f .head .n) 16 .1 (fits .head .n), within-range 1 (f .head .h) 255 .1 (fits .head .h), capacity-fits f fits, leb·zero (f .head .capacity), tail-start m (f .head .n), threads-fit, nodes-fit, rows-fit);
   }

@@ -6,6 +6,7 @@ use mathlib.Core.Bool.{Bool}
 use mathlib.Core.List.{List}
 use borrow.Author.Tests.{eq-eqb, ne-eqb}
 use Rattle.object.specs.declared.Answer.{Answer}
+use Rattle.machine.specs.declared.Method.{Method}
 use Rattle.machine.specs.declared.Method.the-variants.{CcSynch, DsmSynch}
 use Rattle.machine.specs.declared.ThreadId.{ThreadId}
 use Rattle.machine.specs.declared.NodeId.{NodeId}
@@ -16,11 +17,12 @@ use Rattle.machine.specs.declared.Event.the-variants.{Swaps, Applies, Returns}
 use Rattle.machine.specs.Accesses.{Access}
 use Rattle.machine.specs.Events.{eventNumber}
 use Rattle.state.specs.declared.State.{State}
-use Rattle.step.specs.Entry.{named, event, target, node, applied, accesses}
+use Rattle.step.specs.Entry.{named, event, target, node, applied}
+use Rattle.step.specs.ByMethod.{pointsToBy, nodeBy, eventBy, appliedBy, accessesBy}
 use Rattle.step.specs.DsmEntry as dsm
 use Rattle.history.specs.Entries.{Entry, Is}
 use Rattle.history.specs.Copies.{remoteMarks}
-use Rattle.claims.specs.Entries.{entryWith, entryOf, dsmEntryOf}
+use Rattle.claims.specs.Entries.{entryWith, assignedBy, entryBy, entryOf, dsmEntryOf}
 
 -- a Swap tells the node that it assigns and the one that it gives; an entry that applies the node, its req and the answer; one that returns the ret
 pub record Telling (e : Entry) (assigned tail applies : NodeId) (x : Node) (answer : Answer) : Type 0 where
@@ -58,19 +60,25 @@ tells-numbers f = record {
   serves = λ q. ap (λ (m : NodeId). m .0) (f .serves q);
 }
 
+module _ (m : Method) (s : State) (t : ThreadId) where
+  pub entry-tells-by : Telling (entryBy m s t) (assignedBy m s t) (s .tail) (pointsToBy m s t) (nodeBy m s t) (appliedBy m s t .answer)
+  entry-tells-by =
+      tells-with t (eventBy m s t) (accessesBy m s t) (remoteMarks m (s .n) (t .0) (s .copies) (accessesBy m s t)) (assignedBy m s t) (s .tail) (pointsToBy m s t) (nodeBy m s t)
+      (appliedBy m s t .answer)
+
+  pub tells-by : Tells (t .0) (eventBy m s t) (assignedBy m s t .0) (pointsToBy m s t .0) (entryBy m s t)
+  tells-by = tells-numbers entry-tells-by
+
+-- of CC-Synch and of DSM-Synch
 module _ (s : State) (t : ThreadId) where
   pub entry-tells : Telling (entryOf s t) (s .tail) (s .tail) (target s t) (node s t) (applied s t .answer)
-  entry-tells =
-      tells-with t (event s t) (accesses s t) (remoteMarks CcSynch (s .n) (t .0) (s .copies) (accesses s t)) (s .tail) (s .tail) (target s t) (node s t)
-      (applied s t .answer)
+  entry-tells = entry-tells-by CcSynch s t
 
   pub dsm-entry-tells : Telling (dsmEntryOf s t) (named s t .my) (s .tail) (dsm.pointsTo s t) (dsm.node s t) (dsm.applied s t .answer)
-  dsm-entry-tells =
-      tells-with t (dsm.event s t) (dsm.accesses s t) (remoteMarks DsmSynch (s .n) (t .0) (s .copies) (dsm.accesses s t)) (named s t .my) (s .tail) (dsm.pointsTo s t)
-      (dsm.node s t) (dsm.applied s t .answer)
+  dsm-entry-tells = entry-tells-by DsmSynch s t
 
   pub tells-of : Tells (t .0) (event s t) (s .tail .0) (target s t .0) (entryOf s t)
-  tells-of = tells-numbers entry-tells
+  tells-of = tells-by CcSynch s t
 
   pub dsm-tells-of : Tells (t .0) (dsm.event s t) (named s t .my .0) (dsm.pointsTo s t .0) (dsmEntryOf s t)
-  dsm-tells-of = tells-numbers dsm-entry-tells
+  dsm-tells-of = tells-by DsmSynch s t

@@ -34,7 +34,7 @@ use Rattle.step.specs.Steps.{stepsOf}
 use Rattle.history.specs.Entries.{Entry, happened, is, howMany}
 use Rattle.history.specs.Copies.{RemoteAsSaid}
 use Rattle.history.specs.Terms.{Call, begunBy, callOf, swapOrder, swapAt, noTurn, turnOfCall, combines, Serving, servings, givesOwn, gaveOther, servedIn, costOf, returned, combined, returns, Shown, unshown, shownOf, noEntry, numberOf, beganAt, swappedAt, returnedAt, precedes, retMark, retValue, recordLength, numberAt, recordsOf, countsOf}
-use Rattle.claims.specs.Entries.{startBy, startOf, stateAfter, meetsNoNull, entriesBy, historyBy, cut}
+use Rattle.claims.specs.Entries.{startBy, stateAfter, meetsNoNull, entriesBy, historyBy, cut}
 
 -- the file's requests of a thread, and its request of a call. Past these, where no call of a run is (`of-the-file`), it is put 0
 abbrev pub askedOf : Fields → ThreadId → List Request
@@ -162,12 +162,12 @@ pub record Holds (m : Method) (f : Fields) (history : List Entry) (s a : ℕ) : 
   pub as-numbered : (c : Call) (k : ℕ) → k < s → precedes c (swapAt history k) history ≡ ltb (returnedAt c history) (beganAt (swapAt history k) history)
   pub by-records : (i k : ℕ) → i < s → k < s → numberAt (getD (recordsOf history) i []) 20 4 < numberAt (getD (recordsOf history) k []) 16 4 → i < k
 
--- the claim of a history by its own counts, and of CC-Synch
+-- the claim of a history by its own counts, and by the file's method
 abbrev pub ClaimedBy : Method → Fields → List Entry → Type 0
 ClaimedBy m f history = Holds m f history (howMany Swaps history) (howMany Applies history)
 
 abbrev pub Claimed : Fields → List Entry → Type 0
-Claimed = ClaimedBy CcSynch
+Claimed f = ClaimedBy (f .head .method) f
 
 -- an entry's number is its place in the schedule: a file's run stopped after k entries has not begun a call, or the call has not returned, and after one more it
 -- has
@@ -190,11 +190,10 @@ pub record NullAlone (s : State) (t : ThreadId) : Type 0 where
   pub alone : dsm.out s t ≡ dsm.nullMet s t
   pub lines : dsm.nullMet s t ≡ true → (eqb (line s t) 21 || eqb (line s t) 26) ≡ true
 
--- 6, by the method, after the first j entries. Of CC-Synch no entry is refused: the run is the fold of the step. Of DSM-Synch, as long as no line meets null, the
--- next entry's line, of whichever thread, has no other cause of 14, and only lines 21 and 26 meet null
-abbrev pub NoOtherRefusal : Method → Fields → ℕ → State → Type 0
-NoOtherRefusal CcSynch f j after = stepsOf (startOf f) (take j (f .schedule)) ≡ record { refusal = 0; state = after }
-NoOtherRefusal DsmSynch f j after = (t : ThreadId) → t .0 < f .head .n → NullAlone after t
+-- 6, of DSM-Synch after the first j entries: the next entry's line, of whichever thread, has no other cause of 14, and only lines 21 and 26 meet null
+abbrev pub OnlyNull : Method → Fields → State → Type 0
+OnlyNull CcSynch f after = Unit
+OnlyNull DsmSynch f after = (t : ThreadId) → t .0 < f .head .n → NullAlone after t
 
 -- 5, of every Swap of DSM-Synch: it never gives a node of the caller's own
 abbrev pub OwnNever : Method → List Entry → Type 0
@@ -205,8 +204,10 @@ OwnNever DsmSynch history = happened givesOwn history ≡ false
 pub record Demand3 (m : Method) (f : Fields) (j : ℕ) (history : List Entry) (after : State) : Type 0 where
   pub claim : ClaimedBy m f history
   pub own-never : OwnNever m history
-  -- 6: no refusal; the machine's counts are those of the entries and have 32 bits, it has begun the calls that they begin, and those have returned that it has left
-  pub steps : NoOtherRefusal m f j after
+  -- 6: no entry is refused, the run is the fold of the step, and of DSM-Synch only null can refuse the next; the machine's counts are those of the entries and have
+  -- 32 bits, it has begun the calls that they begin, and those have returned that it has left
+  pub steps : stepsOf (startBy m f) (take j (f .schedule)) ≡ record { refusal = 0; state = after }
+  pub only-null : OnlyNull m f after
   pub counts : after .counts ≡ countsOf history
   pub counts-fit : countsInRange (after .counts) ≡ true
   pub begun : (t : ThreadId) → t .0 < f .head .n → getD (after .threads) (t .0) zeroThread .begun ≡ begunBy t history
@@ -223,10 +224,12 @@ pub record Demand3 (m : Method) (f : Fields) (j : ℕ) (history : List Entry) (a
 abbrev pub Demand3At : Method → Fields → ℕ → Type 0
 Demand3At m f j = Demand3 m f j (reverse (take j (entriesBy m f))) (stateAfter m (startBy m f) (take j (f .schedule)))
 
--- a file's claim, for every j; from the schedule's length on that is the whole run. The theorem is for all fields in range
-abbrev pub Demand3Of : Fields → Type 0
-Demand3Of f = (j : ℕ) → Demand3At CcSynch f j
+-- the claim for every j; from the schedule's length on that is the whole run. Of DSM-Synch for every j such that none of the first j entries meets null:
+-- document 02, No. 6, "for every run up to such an entry". The theorem is for all fields in range
+abbrev pub Demand3By : Method → Fields → Type 0
+Demand3By CcSynch f = (j : ℕ) → Demand3At CcSynch f j
+Demand3By DsmSynch f = (j : ℕ) → meetsNoNull DsmSynch (startBy DsmSynch f) (take j (f .schedule)) ≡ true → Demand3At DsmSynch f j
 
--- the same of DSM-Synch, for every j such that none of the first j entries meets null: document 02, No. 6, "for every run up to such an entry"
-abbrev pub DsmDemand3Of : Fields → Type 0
-DsmDemand3Of f = (j : ℕ) → meetsNoNull DsmSynch (startBy DsmSynch f) (take j (f .schedule)) ≡ true → Demand3At DsmSynch f j
+-- a file's claim is its method's
+abbrev pub Demand3Of : Fields → Type 0
+Demand3Of f = Demand3By (f .head .method) f

@@ -22,9 +22,8 @@ use Rattle.dsm_synch.specs.Effect.{assigned}
 use Rattle.state.specs.declared.Slot.{Slot}
 use Rattle.state.specs.declared.State.{State}
 use Rattle.state.specs.Fresh.{freshStateBy}
-use Rattle.step.specs.Entry.{zeroSlot, named, event, target, node, applied, accesses}
-use Rattle.step.specs.ByMethod.{enteredBy, nullMetBy}
-use Rattle.step.specs.DsmEntry as dsm
+use Rattle.step.specs.Entry.{zeroSlot, named}
+use Rattle.step.specs.ByMethod.{pointsToBy, nodeBy, eventBy, appliedBy, accessesBy, enteredBy, nullMetBy}
 use Rattle.history.specs.Entries.{Entry, threadId}
 use Rattle.history.specs.Copies.{remoteMarks}
 
@@ -43,22 +42,23 @@ entryWith t event accesses remote assigned tail applies x answer = record {
   ret = retTold event x;
 }
 
--- what the entry of a thread does in a state, by Algorithm 1: a Swap assigns the node that it gives
-abbrev pub entryOf : State → ThreadId → Entry
-entryOf s t =
-    entryWith t (event s t) (accesses s t) (remoteMarks CcSynch (s .n) (t .0) (s .copies) (accesses s t)) (s .tail) (s .tail) (target s t) (node s t)
-    (applied s t .answer)
+-- the node that a Swap assigns to its call: by Algorithm 1 the one that it gives, Tail's; by Algorithm 2 the one that it puts in, myNode
+abbrev pub assignedBy : Method → State → ThreadId → NodeId
+assignedBy CcSynch s t = s .tail
+assignedBy DsmSynch s t = assigned (named s t) (s .tail)
 
--- by Algorithm 2: a Swap assigns the node that it puts in, myNode
-abbrev pub dsmEntryOf : State → ThreadId → Entry
-dsmEntryOf s t =
-    entryWith t (dsm.event s t) (dsm.accesses s t) (remoteMarks DsmSynch (s .n) (t .0) (s .copies) (dsm.accesses s t)) (assigned (named s t) (s .tail)) (s .tail) (dsm.pointsTo s t) (dsm.node s t)
-    (dsm.applied s t .answer)
-
--- and by the method
+-- what the entry of a thread does in a state, by a method
 abbrev pub entryBy : Method → State → ThreadId → Entry
-entryBy CcSynch s t = entryOf s t
-entryBy DsmSynch s t = dsmEntryOf s t
+entryBy m s t =
+    entryWith t (eventBy m s t) (accessesBy m s t) (remoteMarks m (s .n) (t .0) (s .copies) (accessesBy m s t)) (assignedBy m s t) (s .tail) (pointsToBy m s t) (nodeBy m s t)
+    (appliedBy m s t .answer)
+
+-- by Algorithm 1, and by Algorithm 2
+abbrev pub entryOf : State → ThreadId → Entry
+entryOf = entryBy CcSynch
+
+abbrev pub dsmEntryOf : State → ThreadId → Entry
+dsmEntryOf = entryBy DsmSynch
 
 -- a list filled up to a length
 abbrev pub filled : {A : Type 0} → ℕ → A → List A → List A
@@ -99,15 +99,19 @@ entriesBy m f = entriesFrom m (startBy m f) (f .schedule)
 abbrev pub historyBy : Method → Fields → List Entry
 historyBy m f = reverse (entriesBy m f)
 
--- a file's run is of CC-Synch
+-- a file's run is of its own method
 abbrev pub startOf : Fields → State
-startOf = startBy CcSynch
+startOf f = startBy (f .head .method) f
 
 abbrev pub entriesOf : Fields → List Entry
-entriesOf = entriesBy CcSynch
+entriesOf f = entriesBy (f .head .method) f
 
 abbrev pub historyOf : Fields → List Entry
-historyOf = historyBy CcSynch
+historyOf f = historyBy (f .head .method) f
+
+-- whether no entry of it meets null
+abbrev pub clearOf : Fields → Bool
+clearOf f = meetsNoNull (f .head .method) (startOf f) (f .schedule)
 
 -- the file with its schedule cut to j
 abbrev pub cut : ℕ → Fields → Fields

@@ -11,6 +11,7 @@ use Rattle.object.specs.declared.Request.the-variants.{Put, Take, Add}
 use Rattle.bench_file.specs.Bytes.{bytesOf}
 use Rattle.bench_file.specs.Examples.{sixtyFour}
 use Rattle.state.specs.declared.Counts.{Counts}
+use Rattle.machine.specs.declared.Method.the-variants.{CcSynch}
 use Rattle.history.specs.Terms.{recordBytes}
 use Rattle.claims.specs.Result.{Result, counted}
 
@@ -71,7 +72,11 @@ gives file counts records = record { file = file; result = record { refusal = 0;
 -- the file of an object, n, h and a capacity, of rows of requests and a schedule
 abbrev pub fileOf : Kind → ℕ → ℕ → ℕ → List (List Request) → List ℕ → List ℕ
 fileOf object n h capacity rows schedule =
-    bytesOf (record { head = record { object = object; n = n; h = h; capacity = capacity }; rows = rows; schedule = schedule })
+    bytesOf (record {
+      head = record { version = 1; object = object; n = n; h = h; capacity = capacity; method = CcSynch };
+      rows = rows;
+      schedule = schedule;
+    })
 
 -- n = 1 and h = 1: requests of thread 0, and so many entries
 abbrev pub alone : Kind → ℕ → List Request → ℕ → List ℕ

@@ -10,6 +10,8 @@ use Rattle.object.specs.declared.Request.the-variants.{Add}
 use Rattle.object.specs.Each.{Each, every}
 use Rattle.bench_file.specs.Bytes.{Byte}
 use Rattle.bench_file.specs.Layout.{Fields, Judgement, accepted, refusedBy, judgeOf}
+use Rattle.machine.specs.declared.Method.the-variants.{CcSynch}
+use Rattle.machine.specs.Methods.{methodNumber}
 use Rattle.history.specs.Entries.{Entry, threadId}
 use Rattle.history.specs.Terms.{Call, turnOfCall, servings, servedIn, costOf, returned, combined, shownOf}
 use Rattle.claims.specs.Entries.{historyOf}
@@ -49,10 +51,11 @@ pub record Combining (k : ℕ) (w : Became) : Type 0 where
   pub combined : w .combined ≡ true
   pub in-turn : w .in-turn ≡ k
 
--- b bounds the calls that meet a premise: in no accepted file's run has one of them cost more
+-- b bounds the calls that meet a premise: in no accepted CC-Synch file's run has one of them cost more
 abbrev pub Bounds : (Became → Type 0) → ℕ → Type 0
 Bounds Premise b =
-    (bytes : List ℕ) (f : Fields) → Each Byte bytes → judgeOf bytes ≡ accepted f → (c : Call) → Premise (becameOf (historyOf f) c) → costOf c (historyOf f) ≤ b
+    (bytes : List ℕ) (f : Fields) → Each Byte bytes → judgeOf bytes ≡ accepted f → f .head .method ≡ CcSynch → (c : Call) → Premise (becameOf (historyOf f) c)
+    → costOf c (historyOf f) ≤ b
 
 -- a file, a call of its run, and what it is said to become
 pub record Sharp : Type 0 where
@@ -98,9 +101,14 @@ combiningUpTo (suc others) = combiningSharp others ∷ combiningUpTo others
 unfoldable pub sharpRuns : List Sharp
 sharpRuns = byAnotherSharp ∷ combiningUpTo 15
 
--- whether a file's bytes are bytes, and what its call becomes; and what is said of it
-abbrev pub becomes : Sharp → Bool × Became
-becomes r = (every (λ b. ltb b 256) (r .file), becameBy (judgeOf (r .file)) (r .call))
+-- the number of a file's method; a refused file has none
+abbrev pub methodIn : Judgement → ℕ
+methodIn (accepted f) = methodNumber (f .head .method)
+methodIn (refusedBy number) = 255
 
-abbrev pub asSaid : Sharp → Bool × Became
-asSaid r = (true, r .said)
+-- whether a file's bytes are bytes, its method, and what its call becomes; and what is said of it
+abbrev pub becomes : Sharp → Bool × ℕ × Became
+becomes r = (every (λ b. ltb b 256) (r .file), methodIn (judgeOf (r .file)), becameBy (judgeOf (r .file)) (r .call))
+
+abbrev pub asSaid : Sharp → Bool × ℕ × Became
+asSaid r = (true, methodNumber CcSynch, r .said)

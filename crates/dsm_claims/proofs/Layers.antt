@@ -23,10 +23,9 @@ use Rattle.copies.proofs.Owners.{owns-two}
 use Rattle.dsm_lines.specs.Lines.{Line, number}
 use Rattle.dsm_synch.proofs.Null.{meets-exactly}
 use Rattle.state.specs.declared.State.{State}
-use Rattle.state.specs.Shape.{Shaped}
 use Rattle.step.specs.Entry.{named, line, request}
 use Rattle.step.specs.DsmEntry as dsm
-use Rattle.step.proofs.Soundness.{dsm-stays-shaped}
+use Rattle.step.proofs.Soundness.{Sound}
 use Rattle.invariant.specs.Ledger.{upd}
 use Rattle.invariant.specs.View.{viewOf}
 use Rattle.invariant.specs.Serving.{openRequest, grown}
@@ -53,9 +52,10 @@ use Rattle.history.proofs.Told.{is-so, is-not, by-event}
 use Rattle.claims.specs.Entries.{dsmEntryOf}
 use Rattle.claims.specs.Claims.{askedOf, NullAlone}
 use Rattle.claims.proofs.Chronicle.{asks, jobsOf, Chronicle, Shows, jobs-next, chronicle-next}
-use Rattle.claims.proofs.Counted.{remote-ones}
+use Rattle.claims.proofs.Counted.{remote-ones, next-fits}
 use Rattle.claims.proofs.Run.{Going, request-going}
 use Rattle.claims.proofs.Start.{row-fits, row-known}
+use Rattle.claims.proofs.Steps.{one-sound}
 use Rattle.claims.proofs.Telling.{dsm-entry-tells, dsm-tells-of}
 use Rattle.dsm_claims.proofs.Meets.{by, at-line, last-line, count-kept, moves}
 use Rattle.dsm_claims.proofs.Seen.{phaseOf, seenOf, positionsOf}
@@ -70,7 +70,7 @@ pub record Layers (f : Fields) (s : State) (past : List Entry) : Type 0 where
   pub ledger : Ledger
   pub cost : ℕ → ℕ
   pub answers : List Answer
-  pub shape : Shaped s
+  pub sound : Sound DsmSynch s
   pub control : Control (s .n) (s .h) (viewOf s) ledger
   pub tip : Tip (s .n) (viewOf s) ledger
   pub spent : Cost (s .n) (viewOf s) cost
@@ -119,7 +119,7 @@ module _ (f : Fields) (fits : InRange f) (s : State) (past : List Entry) (t : Th
     next = noted (viewOf s) (t .0) (now .ledger) l
 
     pub does : Does (s .n) (s .h) (viewOf s) (viewOf after) (t .0) l (request s t) (dsm.applied s t .answer)
-    does = does-of s t (now .control) below (now .shape .threads) (now .shape .nodes) few fine
+    does = does-of s t (now .control) below (now .sound .shape .threads) (now .sound .shape .nodes) few fine
 
     pub tells : Told (viewOf s) (t .0) (number l) (e .event)
     tells = by (now .control) does (dsm-tells-of s t)
@@ -191,12 +191,12 @@ module _ (f : Fields) (fits : InRange f) (s : State) (past : List Entry) (t : Th
       keeps = λ u z. upd-other _ (t .0) _ u z;
     }
 
-    pub layers-next : Layers f after (e ∷ past)
-    layers-next = record {
+    pub layers-next : length past < 32768 → Layers f after (e ∷ past)
+    layers-next short = record {
       ledger = next;
       cost = costs;
       answers = grown (is Applies e) (now .answers) (dsm.applied s t .answer);
-      shape = dsm-stays-shaped s t (now .shape);
+      sound = one-sound DsmSynch s t (going .method) (now .sound) below (null-alone .alone ∙ fine) (next-fits DsmSynch s past t (going .counted) short);
       control = control-kept (s .n) (s .h) few (omega (arith, going .h, fits .head .h)) (viewOf s) (viewOf after) (now .ledger) (t .0) (request s t) (dsm.applied s t .answer) (now .control) l does;
       tip = tip-kept (now .control) does (now .tip);
       spent = cost-kept (s .copies) few (now .control) (now .tip) (now .spent) does;

@@ -1,3 +1,4 @@
+pub mod Either
 pub mod Layers
 pub mod Marked
 pub mod Meets

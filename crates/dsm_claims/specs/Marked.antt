@@ -2,10 +2,13 @@
 use Prim.Native.Nat.{ℕ, _+_}
 use mathlib.Core.List.{List, [], _∷_, _++_}
 use lib.ListN.{replicate}
+use Rattle.object.specs.declared.Kind.{Kind}
 use Rattle.object.specs.declared.Kind.the-variants.{Queue, Counter}
 use Rattle.object.specs.declared.Request.{Request}
 use Rattle.object.specs.declared.Request.the-variants.{Put, Take, Add}
+use Rattle.bench_file.specs.declared.Head.{Head}
 use Rattle.bench_file.specs.Layout.{Fields}
+use Rattle.machine.specs.declared.Method.the-variants.{DsmSynch}
 use Rattle.state.specs.declared.Counts.{Counts}
 use Rattle.history.specs.Terms.{noEntry}
 use Rattle.claims.specs.Entries.{cut}
@@ -26,9 +29,13 @@ pub record Swapping : Type 0 where
 abbrev pub swaps : Fields → List (ℕ × ℕ) → Swapping
 swaps fields nodes = record { fields = fields; nodes = nodes }
 
+-- the head of a DSM-Synch file, of an object, n, h and a capacity
+abbrev pub headOf : Kind → ℕ → ℕ → ℕ → Head
+headOf object n h capacity = record { version = 2; object = object; n = n; h = h; capacity = capacity; method = DsmSynch }
+
 -- a counter's run, of n, h, rows of requests and a schedule
 abbrev pub counterOf : ℕ → ℕ → List (List Request) → List ℕ → Fields
-counterOf n h rows schedule = record { head = record { object = Counter; n = n; h = h; capacity = 0 }; rows = rows; schedule = schedule }
+counterOf n h rows schedule = record { head = headOf Counter n h 0; rows = rows; schedule = schedule }
 
 abbrev pub gives : Fields → Counts → List (List ℕ) → Marked
 gives fields counts records = record { fields = fields; counts = counts; records = records }
@@ -57,7 +64,7 @@ fourThreads =
 -- the last four of 16 threads at a queue of capacity 2, with two blanks
 abbrev pub lastThreads : Fields
 lastThreads = record {
-  head = record { object = Queue; n = 16; h = 3; capacity = 2 };
+  head = headOf Queue 16 3 2;
   rows = replicate 12 [] ++ ((Put 7 ∷ Take ∷ []) ∷ (Put 8 ∷ []) ∷ (Put 9 ∷ []) ∷ (Take ∷ Take ∷ []) ∷ []);
   schedule =
       times ((8, 12) ∷ (9, 13) ∷ (9, 14) ∷ (9, 15) ∷ (26, 12) ∷ (1, 0) ∷ (3, 13) ∷ (3, 14) ∷ (13, 15) ∷ (19, 12) ∷ (19, 15) ∷ (1, 13) ∷ []);

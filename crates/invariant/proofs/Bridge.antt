@@ -6,6 +6,7 @@ use lib.Seq.{getD-set-same, getD-set-other}
 use Rattle.machine.specs.declared.ThreadId.{ThreadId}
 use Rattle.cc_lines.specs.Lines.{lineOf, number}
 use Rattle.state.specs.declared.State.{State}
+use Rattle.machine.specs.declared.Method.the-variants.{CcSynch}
 use Rattle.state.proofs.RangeFacts.{state-fits}
 use Rattle.step.specs.Entry.{zeroThread, zeroNode, named, line, target, request, applied, effect, entered}
 use Rattle.machine.proofs.Lines.{RunsNext}
@@ -14,9 +15,9 @@ use Rattle.step.proofs.Outcome.{room, runs-line, target-in-range}
 use Rattle.step.proofs.Soundness.{Sound}
 use Rattle.invariant.specs.View.{viewOf, Does}
 
-module _ (s : State) (t : ThreadId) (sound : Sound s) (below : t .0 < s .n) where
+module _ (s : State) (t : ThreadId) (sound : Sound CcSynch s) (below : t .0 < s .n) where
   pub runs-it : RunsNext (named s t) 21
-  runs-it = runs-line s t (sound .shape) (sound .range) below
+  runs-it = runs-line CcSynch s t (sound .shape) (sound .range) below
 
   pub number-line : number (lineOf (line s t)) ≡ line s t
   number-line = number-of (line s t) (runs-it .printed)
@@ -25,11 +26,11 @@ module _ (s : State) (t : ThreadId) (sound : Sound s) (below : t .0 < s .n) wher
   does-of = record {
     below = below;
     stands = rw number-line (runs-it .stands);
-    mine = getD-set-same (s .threads) (t .0) (effect s t .thread) zeroThread (omega (arith, room s t (sound .shape) (sound .range) below));
+    mine = getD-set-same (s .threads) (t .0) (effect s t .thread) zeroThread (omega (arith, room CcSynch s t (sound .shape) (sound .range) below));
     others = λ u apart. getD-set-other (s .threads) (t .0) u (effect s t .thread) zeroThread apart;
     there =
         getD-set-same (s .nodes) (target s t .0) (effect s t .node) zeroNode
-        (omega (arith, target-in-range s t (sound .shape) (sound .range) below, state-fits s (sound .range) .small, sound .shape .nodes));
+        (omega (arith, target-in-range s t (sound .shape) (sound .range) below, state-fits CcSynch s (sound .range) .small, sound .shape .nodes));
     elsewhere = λ m apart. getD-set-other (s .nodes) (target s t .0) m (effect s t .node) zeroNode apart;
     tail = refl;
   }

@@ -156,7 +156,7 @@ module _ (f : Fields) (fits : InRange f) (s : State) (past : List Entry) (t : Th
   -- every entry keeps it that meets no null
   layers-next : (m : Method) → Standing m f s past → length past < 32768 → nullMetBy m s t ≡ false → Layered m f (enteredBy m s t) (entryBy m s t ∷ past)
   layers-next CcSynch now short fine = ccLayers.layers-next f fits s past t below (now .going) (now .layers) short
-  layers-next DsmSynch now short fine = dsmLayers.layers-next f fits s past t below (now .going) (now .layers) fine
+  layers-next DsmSynch now short fine = dsmLayers.layers-next f fits s past t below (now .going) (now .layers) fine short
 
   pub standing-next : (m : Method) → Standing m f s past → length past < 32768 → nullMetBy m s t ≡ false → Standing m f (enteredBy m s t) (entryBy m s t ∷ past)
   standing-next m now short fine = record { going = going-next m f s past t short (now .going); layers = layers-next m now short fine }
