@@ -13,7 +13,7 @@ use Rattle.machine.specs.Sizes.{mostCalls}
 use Rattle.state.specs.declared.State.{State}
 use Rattle.history.specs.Entries.{Entry}
 use Rattle.history.specs.Terms.{swapOrder, recordLength, countsOf}
-use Rattle.claims.specs.Entries.{filled, startOf, entriesFrom}
+use Rattle.claims.specs.Entries.{filled, startOf, entriesFrom, meetsNoNull}
 use Rattle.claims.specs.Result.{counted}
 use Rattle.runner.specs.declared.Played.{Played}
 use Rattle.kept.specs.Kept.{placeOf, callAt, keptOf, unkept}
@@ -21,7 +21,7 @@ use Rattle.kept.specs.Kept.{placeOf, callAt, keptOf, unkept}
 -- the fields of an accepted file; of a refused one none
 abbrev pub fieldsOf : Judgement → Fields
 fieldsOf (accepted f) = f
-fieldsOf (refusedBy number) = record { head = record { object = Queue; n = 0; h = 0; capacity = 0 }; rows = []; schedule = [] }
+fieldsOf (refusedBy number) = record { head = record { version = 1; object = Queue; n = 0; h = 0; capacity = 0; method = CcSynch }; rows = []; schedule = [] }
 
 abbrev pub fieldsIn : List ℕ → Fields
 fieldsIn bytes = fieldsOf (judgeOf bytes)
@@ -39,7 +39,7 @@ tabled value from zero = []
 tabled value from (suc k) = value from ∷ tabled value (from + 1) k
 
 -- what a run leaves
-abbrev playedBy : List Entry → Played
+abbrev pub playedBy : List Entry → Played
 playedBy history = record {
   refusal = 0;
   counts = countsOf history;
@@ -47,16 +47,16 @@ playedBy history = record {
   order = filled mostCalls 0 (map placeOf (swapOrder history));
 }
 
--- after all entries of a schedule from a state, and of a file
-abbrev pub playedFrom : State → List ℕ → Played
-playedFrom s schedule = playedBy (reverse (entriesFrom CcSynch s schedule))
-
-abbrev pub playedOf : Fields → Played
-playedOf f = playedFrom (startOf f) (f .schedule)
-
 -- nothing is kept of a refusal
 abbrev pub unplayed : ℕ → Played
 unplayed number = record { refusal = number; counts = counted 0 0 0 0 0; kept = replicate mostCalls unkept; order = replicate mostCalls 0 }
+
+-- after all entries of a schedule from a state, and of a file, by the method; 14 if one of them meets null
+abbrev pub playedFrom : State → List ℕ → Played
+playedFrom s schedule = cond (meetsNoNull (s .method) s schedule) (playedBy (reverse (entriesFrom (s .method) s schedule))) (unplayed 14)
+
+abbrev pub playedOf : Fields → Played
+playedOf f = playedFrom (startOf f) (f .schedule)
 
 -- a file's run with so many bytes lent for its records: those of a record for each request in the file, performed or not, else 13
 abbrev pub playedIn : ℕ → Judgement → Played
