@@ -8,14 +8,14 @@ use Rattle.machine.specs.declared.Node.{Node}
 use Rattle.machine.specs.declared.Thread.{Thread}
 use Rattle.machine.specs.declared.Pointer.the-variants.{Own, Cur, Tmp}
 use Rattle.machine.specs.declared.Field.the-variants.{Req, Ret, Wait, Completed, Next}
-use Rattle.machine.specs.declared.SharedAccess.the-variants.{NoAccess, Read, Write, Swap}
+use Rattle.machine.specs.declared.SharedAccess.the-variants.{Read, Write, Swap}
 use Rattle.machine.specs.declared.Event.{Event}
 use Rattle.machine.specs.declared.Event.the-variants.{Blank, CallBegins, Swaps, TurnBegins, Applies, TurnEnds, Returns, Spins, Other}
+use Rattle.machine.specs.declared.PrintedLine.{PrintedLine}
+use Rattle.machine.specs.declared.PrintedLine.the-variants.{Local, One, Two}
 use Rattle.machine.specs.declared.Row.{Row}
-use Rattle.machine.specs.Accesses.{Access, pointed, accessesOf}
+use Rattle.machine.specs.Accesses.{Access, pointed, rowFrom, accessesOf}
 use Rattle.machine.specs.Fields.{isNull}
-use Rattle.cc_lines.specs.declared.PrintedLine.{PrintedLine}
-use Rattle.cc_lines.specs.declared.PrintedLine.the-variants.{Local, One, Two}
 
 -- what an entry runs: one printed line, or none, L0, which is a blank (a thread whose next line is 0 is idle: it runs line 1, or none)
 pub data Line : Type 0 where
@@ -74,44 +74,39 @@ number L19 = 19
 number L20 = 20
 number L21 = 21
 
--- the table: what an entry of a line is and, where it has shared accesses, the node that it points to and these in order. Line 16 is two accesses. `Spins` is
--- said of a line that may: an entry of it is a spin where it stays
+-- the table: the node that a line points to, its shared accesses in order, and what an entry of it is. Line 16 is two accesses; a line without access has the own
+-- node, and leaves it. `Spins` is said of a line that may: an entry of it is a spin where it stays
 abbrev pub printedLine : Line → PrintedLine
-printedLine L0 = Local Blank
-printedLine L1 = Local CallBegins
+printedLine L0 = Local Own Blank
+printedLine L1 = Local Own CallBegins
 printedLine L2 = One Own (Write Next) Other
 printedLine L3 = One Own (Write Wait) Other
 printedLine L4 = One Own (Write Completed) Other
 printedLine L5 = One Own Swap Swaps
 printedLine L6 = One Cur (Write Req) Other
 printedLine L7 = One Cur (Write Next) Other
-printedLine L8 = Local Other
+printedLine L8 = Local Own Other
 printedLine L9 = One Cur (Read Wait) Spins
 printedLine L10 = One Cur (Read Completed) Other
 printedLine L11 = One Cur (Read Ret) Returns
-printedLine L12 = Local TurnBegins
+printedLine L12 = Local Own TurnBegins
 printedLine L13 = One Tmp (Read Next) Other
-printedLine L14 = Local Other
+printedLine L14 = Local Own Other
 printedLine L15 = One Tmp (Read Next) Other
 printedLine L16 = Two Tmp (Read Req) (Write Ret) Applies
 printedLine L17 = One Tmp (Write Completed) Other
 printedLine L18 = One Tmp (Write Wait) Other
-printedLine L19 = Local Other
+printedLine L19 = Local Own Other
 printedLine L20 = One Tmp (Write Wait) TurnEnds
 printedLine L21 = One Cur (Read Ret) Returns
-
--- a row of the table: a line without access has the own node, and leaves it
-abbrev pub rowFrom : PrintedLine → Row
-rowFrom (Local event) = record { node = Own; first = NoAccess; second = NoAccess; event = event }
-rowFrom (One node first event) = record { node = node; first = first; second = NoAccess; event = event }
-rowFrom (Two node first second event) = record { node = node; first = first; second = second; event = event }
 
 abbrev pub rowOf : Line → Row
 rowOf l = rowFrom (printedLine l)
 
--- the accesses of a line, in order; the thread gives the nodes
+-- the accesses of a line, in order; the thread gives the nodes. No line goes behind its node, so what stands there is not looked at: `behind-unread` in
+-- proofs/Table.antt
 abbrev pub accessesBy : Thread → Line → List Access
-accessesBy th l = accessesOf (rowOf l) (pointed (rowOf l .node) th)
+accessesBy th l = let m = pointed (rowOf l .node) th in accessesOf (rowOf l) m m
 
 -- the line that follows a line, by what it finds: the node that it points to, the served counter and h. 0 is idle
 module _ (x : Node) (served h : ℕ) where

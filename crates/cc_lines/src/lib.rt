@@ -1,54 +1,40 @@
 // The 21 printed lines of CC-Synch, Algorithm 1 of source 004: the table of their accesses and the line that follows each.
 ghost use Prim.Native.Nat.{_+_, _<_};
 ghost use mathlib.Core.Path.{_≡_};
-ghost use mathlib.Core.Bool.{cond};
-ghost use mathlib.Core.List.{_∷_, map};
-ghost use Rattle.cc_lines.specs.Lines.{L0, printed, lineOf, printedLine, rowFrom, rowOf, following, eventIn};
-use PrintedLine::*;
-use machine::Event;
+ghost use Rattle.cc_lines.specs.Lines.{lineOf, printedLine, rowOf, following};
 use machine::Event::*;
 use machine::Field::*;
 use machine::Node;
-use machine::Pointer;
 use machine::Pointer::*;
+use machine::PrintedLine;
+use machine::PrintedLine::*;
 use machine::Row;
-use machine::SharedAccess;
 use machine::SharedAccess::*;
 
-// A printed line: what an entry of it is and, where it has shared accesses, the node that it points to and these in order.
-enum PrintedLine {
-    Local(Event),
-    One(Pointer, SharedAccess, Event),
-    Two(Pointer, SharedAccess, SharedAccess, Event),
-}
-
-// The printed lines, 1 to 21. `Spins` is said of a line that may.
+// The printed lines, 1 to 21. A line without access has the own node, and leaves it.
 const LINES: [PrintedLine; 21] = [
-    Local(CallBegins), // 1. nextNode = node_i
+    Local(Own, CallBegins), // 1. nextNode = node_i
     One(Own, Write(Next), Other), // 2. nextNode→next = null
     One(Own, Write(Wait), Other), // 3. nextNode→wait = TRUE
     One(Own, Write(Completed), Other), // 4. nextNode→completed = FALSE
     One(Own, Swap, Swaps), // 5. curNode = Swap(Tail, nextNode)
     One(Cur, Write(Req), Other), // 6. curNode→req = req
     One(Cur, Write(Next), Other), // 7. curNode→next = nextNode
-    Local(Other), // 8. node_i = curNode
+    Local(Own, Other), // 8. node_i = curNode
     One(Cur, Read(Wait), Spins), // 9. while (curNode→wait == TRUE) nop
     One(Cur, Read(Completed), Other), // 10. if (curNode→completed == TRUE)
     One(Cur, Read(Ret), Returns), // 11.   return curNode→ret
-    Local(TurnBegins), // 12. tmpNode = curNode
+    Local(Own, TurnBegins), // 12. tmpNode = curNode
     One(Tmp, Read(Next), Other), // 13. while (tmpNode→next ≠ null AND counter < h) {
-    Local(Other), // 14.   counter = counter + 1
+    Local(Own, Other), // 14.   counter = counter + 1
     One(Tmp, Read(Next), Other), // 15.   tmpNodeNext = tmpNode→next
     Two(Tmp, Read(Req), Write(Ret), Applies), // 16.   apply tmpNode→req, store the return value to tmpNode→ret
     One(Tmp, Write(Completed), Other), // 17.   tmpNode→completed = TRUE
     One(Tmp, Write(Wait), Other), // 18.   tmpNode→wait = FALSE
-    Local(Other), // 19.   tmpNode = tmpNodeNext }
+    Local(Own, Other), // 19.   tmpNode = tmpNodeNext }
     One(Tmp, Write(Wait), TurnEnds), // 20. tmpNode→wait = FALSE
     One(Cur, Read(Ret), Returns), // 21. return curNode→ret
 ];
-
-// The line that may spin.
-pub const SPIN_LINE: u8 = 9;
 
 // The line that follows a line, by cases, one for each printed line. The node is the one that the line points to, `served` the printed counter; 0 is idle.
 pub fn following(line: u8, node: Node, served: u8, h: u8) -> u8
@@ -91,79 +77,16 @@ fn printed_line(place: usize) -> PrintedLine
     LINES[place]
 }
 
-// The row of a printed line. A line without access has the own node, and leaves it.
-fn row_from(printed: PrintedLine) -> Row
-    ensures { λ r. ⌜ r ≡ rowFrom printed ⌝ }
-{
-    match printed {
-        Local(event) => Row {
-            node: Own,
-            first: NoAccess,
-            second: NoAccess,
-            event,
-        },
-        One(node, first, event) => Row {
-            node,
-            first,
-            second: NoAccess,
-            event,
-        },
-        Two(node, first, second, event) => Row {
-            node,
-            first,
-            second,
-            event,
-        },
-    }
-}
-
 // The row of a line, or of a blank.
 pub fn row_of(line: u8) -> Row
     ensures { λ r. ⌜ r ≡ rowOf (lineOf line) ⌝ }
 {
     if line == 0 {
-        return row_from(Local(Blank));
+        return machine::row_from(Local(Own, Blank));
     }
     if line > 21 {
-        return row_from(Local(Blank));
+        return machine::row_from(Local(Own, Blank));
     }
     let place = (line - 1) as usize;
-    row_from(printed_line(place))
-}
-
-// The rows of all lines in one array, the blank's at 0, made once for a run.
-pub fn all_rows() -> [Row; 22]
-    ensures { λ r. ⌜ r ≡ map rowOf (L0 ∷ printed) ⌝ }
-{
-    let mut rows = [row_of(0); 22];
-    let mut line = 0u8;
-    while line < 22 {
-        rows[line as usize] = row_of(line);
-        line += 1;
-    }
-    rows
-}
-
-fn spin_or_other(waits: bool) -> Event
-    ensures { λ r. ⌜ r ≡ cond waits Event.Spins Event.Other ⌝ }
-{
-    if waits { Event::Spins } else { Event::Other }
-}
-
-// What an entry of a row is: as the row has it, but a spin only where the line finds wait true.
-pub fn event_in(event: Event, node: Node) -> Event
-    ensures { λ r. ⌜ r ≡ eventIn event node ⌝ }
-{
-    let spin = spin_or_other(node.wait);
-    match event {
-        Event::Blank => Event::Blank,
-        Event::CallBegins => Event::CallBegins,
-        Event::Swaps => Event::Swaps,
-        Event::TurnBegins => Event::TurnBegins,
-        Event::Applies => Event::Applies,
-        Event::TurnEnds => Event::TurnEnds,
-        Event::Returns => Event::Returns,
-        Event::Spins => spin,
-        Event::Other => Event::Other,
-    }
+    machine::row_from(printed_line(place))
 }

@@ -2,14 +2,11 @@
 ghost use Prim.Native.Nat.{_<_};
 ghost use mathlib.Core.Path.{_≡_};
 ghost use mathlib.Core.Bool.{false};
-ghost use Rattle.machine.specs.Fields.{withReq, withRet};
 ghost use Rattle.cc_lines.specs.Lines.{lineOf};
 ghost use Rattle.cc_synch.specs.Effect.{usesEmpty, takesOut, lineDoes, executed, effectOf};
-use machine::Announced;
 use machine::Effect;
 use machine::Node;
 use machine::NodeId;
-use machine::RetVal;
 use machine::Thread;
 use object::Answer;
 use object::Request;
@@ -53,7 +50,7 @@ fn line_does(
             th.cur = tail;
             to = own;
         }
-        6 => x = with_req(node, request),
+        6 => x = machine::with_req(node, request),
         7 => x.next = own,
         8 => th.own = cur,
         9 => {} // tests wait
@@ -63,7 +60,7 @@ fn line_does(
         13 => {} // tests next and the counter
         14 => th.served = thread.served + 1,
         15 => th.tmpnext = next,
-        16 => x = with_ret(node, answer),
+        16 => x = machine::with_ret(node, answer),
         17 => x.completed = true,
         18 => x.wait = false,
         19 => th.tmp = tmpnext,
@@ -94,34 +91,6 @@ fn executed(
 {
     let on = cc_lines::following(line, node, thread.served, h);
     line_does(line, on, thread, node, tail, request, answer)
-}
-
-fn with_req(node: Node, request: Request) -> Node
-    ensures { λ r. ⌜ r ≡ withReq node request ⌝ }
-{
-    let ret = node.ret;
-    let next = node.next;
-    Node {
-        req: Announced::Asked(request),
-        ret,
-        wait: node.wait,
-        completed: node.completed,
-        next,
-    }
-}
-
-fn with_ret(node: Node, answer: Answer) -> Node
-    ensures { λ r. ⌜ r ≡ withRet node answer ⌝ }
-{
-    let req = node.req;
-    let next = node.next;
-    Node {
-        req,
-        ret: RetVal::Answered(answer),
-        wait: node.wait,
-        completed: node.completed,
-        next,
-    }
 }
 
 // Line 16 uses the req of its node, lines 11 and 21 the ret.

@@ -9,7 +9,7 @@ use Rattle.machine.specs.declared.ThreadId.{ThreadId}
 use Rattle.machine.specs.declared.SharedAccess.{SharedAccess}
 use Rattle.machine.specs.declared.SharedAccess.the-variants.{NoAccess, Read, Write, Swap}
 use Rattle.machine.specs.Accesses.{accessTo}
-use Rattle.dsm_synch.proofs.Table.{few}
+use Rattle.dsm_lines.proofs.Table.{few}
 use Rattle.state.specs.declared.State.{State}
 use Rattle.step.specs.Entry.{row, target, named}
 use Rattle.step.specs.DsmEntry as dsm

@@ -18,7 +18,7 @@ use Rattle.machine.specs.declared.Event.the-variants.{Applies}
 use Rattle.machine.specs.Accesses.{Access}
 use Rattle.machine.specs.Events.{sameEvent, nodeTold, givenTold, reqTold, retTold}
 use Rattle.machine.specs.Sizes.{mostCalls}
-use Rattle.dsm_synch.specs.Lines.{assigned}
+use Rattle.dsm_synch.specs.Effect.{assigned}
 use Rattle.state.specs.declared.Slot.{Slot}
 use Rattle.state.specs.declared.State.{State}
 use Rattle.state.specs.Fresh.{freshStateBy}

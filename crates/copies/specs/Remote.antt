@@ -6,8 +6,6 @@ use lib.ListN.{getD, set}
 use lib.Dec.{eqb}
 use Rattle.machine.specs.declared.Method.{Method}
 use Rattle.machine.specs.declared.Method.the-variants.{CcSynch, DsmSynch}
-use Rattle.machine.specs.declared.SharedAccess.{SharedAccess}
-use Rattle.machine.specs.declared.SharedAccess.the-variants.{NoAccess, Read, Write, Swap}
 use Rattle.machine.specs.Accesses.{Access, read, write, swap, cas, Location, tail, whole, located}
 use Rattle.machine.specs.Owners.{ownerOf}
 use Rattle.copies.specs.Copies.{hasCopy, afterRead, afterWrite}
@@ -44,10 +42,13 @@ abbrev pub owns : ℕ → Location → Bool
 owns t tail = false
 owns t (whole node) = eqb (ownerOf node) t
 
--- whether a thread has a location at hand: CC-Synch by its valid copy, DSM-Synch as the owner
+-- whether a thread has a location at hand: CC-Synch by its valid copy, of which the location's number tells, DSM-Synch as the owner
+abbrev pub atHandBy : Method → ℕ → ℕ → Location → Bool
+atHandBy CcSynch word t l = hasCopy word t
+atHandBy DsmSynch word t l = owns t l
+
 abbrev pub atHand : Method → List ℕ → ℕ → Location → Bool
-atHand CcSynch copies t l = hasCopyOf copies t l
-atHand DsmSynch copies t l = owns t l
+atHand m copies t l = atHandBy m (getD copies (place l) 0) t l
 
 -- the copies after an access: DSM-Synch leaves them as they are
 abbrev pub leftCopies : Method → ℕ → ℕ → Access → List ℕ → List ℕ
@@ -75,10 +76,3 @@ remoteOf = remoteBy CcSynch
 
 abbrev pub referred : ℕ → ℕ → List ℕ → List Access → Referred
 referred = referredBy CcSynch
-
--- whether a row's access is none
-abbrev pub isNone : SharedAccess → Bool
-isNone NoAccess = true
-isNone (Read field) = false
-isNone (Write field) = false
-isNone Swap = false

@@ -20,7 +20,7 @@ use Rattle.machine.specs.Accesses.{whole}
 use Rattle.machine.specs.Fields.{isNull}
 use Rattle.machine.specs.Owners.{ownerOf}
 use Rattle.copies.proofs.Owners.{owns-two}
-use Rattle.dsm_synch.specs.Lines.{Line, number}
+use Rattle.dsm_lines.specs.Lines.{Line, number}
 use Rattle.dsm_synch.proofs.Null.{meets-exactly}
 use Rattle.state.specs.declared.State.{State}
 use Rattle.state.specs.Shape.{Shaped}

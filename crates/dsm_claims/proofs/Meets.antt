@@ -13,8 +13,8 @@ use Rattle.machine.specs.declared.Event.{Event}
 use Rattle.machine.specs.declared.Event.the-variants.{Swaps, TurnBegins, Applies, TurnEnds, Returns}
 use Rattle.machine.specs.Events.{eventNumber, sameEvent}
 use Rattle.machine.specs.Lines.{standsAt}
-use Rattle.dsm_synch.specs.Lines.{Line, number, pointed}
-use Rattle.dsm_synch.proofs.Numbers.{by-line}
+use Rattle.dsm_lines.specs.Lines.{Line, number, pointed}
+use Rattle.dsm_lines.proofs.Numbers.{by-line}
 use Rattle.step.specs.Entry.{oneIf}
 use Rattle.invariant.specs.View.{View}
 use Rattle.invariant.proofs.Serving.{field-left}

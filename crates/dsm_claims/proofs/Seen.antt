@@ -7,8 +7,8 @@ use mathlib.Core.Bool.{cond}
 use lib.Dec.{T, leb, eqb, le→leb, eqb→eq}
 use borrow.Author.Tests.{lt-leb}
 use Rattle.object.proofs.Choice.{by-equal, by-order}
-use Rattle.dsm_synch.specs.Lines.{Line, lineOf, number}
-use Rattle.dsm_synch.proofs.Numbers.{number-of, each-line}
+use Rattle.dsm_lines.specs.Lines.{Line, lineOf, number}
+use Rattle.dsm_lines.proofs.Numbers.{number-of, each-line}
 use Rattle.invariant.specs.View.{View}
 use Rattle.dsm_invariant.specs.Stages.{Stage, out, wait, combine, leave, nowhere, stageOf, queued}
 use Rattle.dsm_invariant.specs.Ledger.{Ledger, nodeAt}

@@ -4,10 +4,10 @@ use borrow.Author.Tests.{eqb-true, eq-eqb}
 use Rattle.machine.specs.declared.ThreadId.{ThreadId}
 use Rattle.machine.specs.declared.Event.the-variants.{Swaps}
 use Rattle.machine.specs.Events.{eventNumber}
-use Rattle.dsm_synch.specs.Lines.{Line, number}
+use Rattle.dsm_lines.specs.Lines.{Line, number}
 use Rattle.dsm_synch.specs.Effect.{executed}
-use Rattle.dsm_synch.proofs.Numbers.{by-line}
-use Rattle.dsm_synch.proofs.Table.{swaps-in}
+use Rattle.dsm_lines.proofs.Numbers.{by-line}
+use Rattle.dsm_synch.proofs.Swap.{swaps-in}
 use Rattle.state.specs.declared.State.{State}
 use Rattle.step.specs.Entry.{named, request}
 use Rattle.step.specs.DsmEntry as dsm

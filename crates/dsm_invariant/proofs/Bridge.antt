@@ -17,9 +17,9 @@ use Rattle.machine.specs.declared.Thread.{Thread}
 use Rattle.machine.specs.Lines.{standsAt}
 use Rattle.machine.specs.Sizes.{mostNodes}
 use Rattle.machine.proofs.Lines.{RunsNext, runs-next}
-use Rattle.dsm_synch.specs.Lines.{Line, number, pointed, target}
+use Rattle.dsm_lines.specs.Lines.{Line, number, pointed, target}
 use Rattle.dsm_synch.specs.Effect.{meetsNull, executed}
-use Rattle.dsm_synch.proofs.Numbers.{number-of, by-line}
+use Rattle.dsm_lines.proofs.Numbers.{number-of, by-line}
 use Rattle.state.specs.declared.State.{State}
 use Rattle.step.specs.Entry.{zeroThread, zeroNode, named, line, request}
 use Rattle.step.specs.DsmEntry.{runs, node, behind, written, applied, effect, entered, nullMet}

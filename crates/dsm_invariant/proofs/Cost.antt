@@ -16,8 +16,8 @@ use Rattle.machine.specs.declared.NodeId.{NodeId}
 use Rattle.machine.specs.declared.Node.{Node}
 use Rattle.machine.specs.declared.Thread.{Thread}
 use Rattle.machine.specs.Owners.{ownerOf}
-use Rattle.dsm_synch.specs.Lines.{Line, number, accesses}
-use Rattle.dsm_synch.proofs.Numbers.{each-line}
+use Rattle.dsm_lines.specs.Lines.{Line, number, accesses}
+use Rattle.dsm_lines.proofs.Numbers.{each-line}
 use Rattle.copies.specs.Remote.{referredBy}
 use Rattle.step.specs.Entry.{oneIf}
 use Rattle.invariant.specs.Ledger.{upd}

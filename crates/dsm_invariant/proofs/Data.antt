@@ -28,9 +28,9 @@ use Rattle.machine.specs.declared.Event.the-variants.{Swaps, Applies}
 use Rattle.machine.specs.Fields.{isEmptyReq, isEmptyRet}
 use Rattle.machine.specs.Events.{sameEvent}
 use Rattle.machine.specs.Lines.{standsAt}
-use Rattle.dsm_synch.specs.Lines.{Line, number, pointed, L0, L1, L2, L3, L4, L5, L6, L7, L8, L9, L10, L11, L12, L13, L14, L15, L16, L17, L18, L19, L20, L21, L22, L23, L24, L25, L26, L27, L28}
+use Rattle.dsm_lines.specs.Lines.{Line, number, pointed, L0, L1, L2, L3, L4, L5, L6, L7, L8, L9, L10, L11, L12, L13, L14, L15, L16, L17, L18, L19, L20, L21, L22, L23, L24, L25, L26, L27, L28}
 use Rattle.dsm_synch.specs.Effect.{meetsNull, usesEmpty, takesOut}
-use Rattle.dsm_synch.proofs.Numbers.{number-most}
+use Rattle.dsm_lines.proofs.Numbers.{number-most}
 use Rattle.step.specs.Entry.{oneIf}
 use Rattle.invariant.specs.View.{View}
 use Rattle.invariant.specs.Serving.{openRequest, grown, Fed}

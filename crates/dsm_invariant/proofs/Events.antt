@@ -9,8 +9,8 @@ use Rattle.object.proofs.Choice.{by-equal, by-test}
 use Rattle.machine.specs.declared.Event.{Event}
 use Rattle.machine.specs.declared.Event.the-variants.{Blank, CallBegins, Swaps, TurnBegins, Applies, TurnEnds, Returns}
 use Rattle.machine.specs.Events.{sameEvent}
-use Rattle.dsm_synch.specs.Lines.{Line, number, eventIn}
-use Rattle.dsm_synch.proofs.Numbers.{by-line}
+use Rattle.dsm_lines.specs.Lines.{Line, number, eventIn}
+use Rattle.dsm_lines.proofs.Numbers.{by-line}
 use Rattle.step.specs.Entry.{oneIf}
 use Rattle.invariant.specs.View.{View}
 use Rattle.dsm_invariant.specs.View.{first, emptied, eventAt}

@@ -17,8 +17,8 @@ use Rattle.machine.specs.declared.Event.{Event}
 use Rattle.machine.specs.declared.Event.the-variants.{TurnEnds, Spins, Other}
 use Rattle.machine.specs.Fields.{isNull}
 use Rattle.machine.specs.Lines.{standsAt}
-use Rattle.dsm_synch.specs.Lines.{Line, printed, number, eventIn, following, L0}
-use Rattle.dsm_synch.proofs.Numbers.{each-line, by-line}
+use Rattle.dsm_lines.specs.Lines.{Line, printed, number, eventIn, following, L0}
+use Rattle.dsm_lines.proofs.Numbers.{each-line, by-line}
 use Rattle.invariant.specs.View.{View}
 use Rattle.dsm_invariant.specs.View.{first, behind, emptied, does, Does}
 

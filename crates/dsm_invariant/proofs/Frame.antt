@@ -8,7 +8,7 @@ use Rattle.object.specs.declared.Request.{Request}
 use Rattle.object.specs.declared.Answer.{Answer}
 use Rattle.machine.specs.declared.Node.{Node}
 use Rattle.machine.specs.declared.Thread.{Thread}
-use Rattle.dsm_synch.specs.Lines.{Line}
+use Rattle.dsm_lines.specs.Lines.{Line}
 use Rattle.invariant.specs.View.{View}
 use Rattle.invariant.proofs.Serving.{field-left}
 use Rattle.dsm_invariant.specs.Stages.{Stage, out, idle, stageOf, queued}

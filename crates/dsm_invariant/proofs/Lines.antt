@@ -8,7 +8,7 @@ use borrow.Author.Tests.{eqb-true, eqb-false, ltb-true, ltb-false}
 use Rattle.object.specs.declared.Request.{Request}
 use Rattle.object.specs.declared.Answer.{Answer}
 use Rattle.machine.specs.Fields.{isNull}
-use Rattle.dsm_synch.specs.Lines.{Line, L1, L2, L8, L9, L10, L11, L13, L27}
+use Rattle.dsm_lines.specs.Lines.{Line, L1, L2, L8, L9, L10, L11, L13, L27}
 use Rattle.machine.specs.Threads.{goes}
 use Rattle.invariant.specs.Ledger.{upd}
 use Rattle.invariant.specs.View.{View}

@@ -9,8 +9,8 @@ use mathlib.Core.List.{_∷_}
 use Rattle.object.specs.Each.{Each}
 use Rattle.object.proofs.Choice.{by-equal, either}
 use Rattle.machine.specs.Fields.{isNull}
-use Rattle.dsm_synch.specs.Lines.{Line, printed, number, L0}
-use Rattle.dsm_synch.proofs.Numbers.{each-line, by-line}
+use Rattle.dsm_lines.specs.Lines.{Line, printed, number, L0}
+use Rattle.dsm_lines.proofs.Numbers.{each-line, by-line}
 use Rattle.step.specs.Entry.{oneIf}
 use Rattle.invariant.specs.View.{View}
 use Rattle.invariant.proofs.Upd.{upd-same, upd-if}

@@ -6,7 +6,7 @@ use mathlib.Core.Bool.{Bool}
 use Rattle.object.specs.declared.Request.{Request}
 use Rattle.object.specs.declared.Answer.{Answer}
 use Rattle.machine.specs.Fields.{isNull}
-use Rattle.dsm_synch.specs.Lines.{Line, L0, L1, L2, L3, L4, L5, L6, L7, L8, L9, L10, L11, L12, L13, L14, L15, L16, L17, L18, L19, L20, L21, L22, L23, L24, L25, L26, L27, L28}
+use Rattle.dsm_lines.specs.Lines.{Line, L0, L1, L2, L3, L4, L5, L6, L7, L8, L9, L10, L11, L12, L13, L14, L15, L16, L17, L18, L19, L20, L21, L22, L23, L24, L25, L26, L27, L28}
 use Rattle.invariant.specs.View.{View}
 use Rattle.dsm_invariant.specs.Ledger.{Ledger, noted}
 use Rattle.dsm_invariant.specs.View.{Does}

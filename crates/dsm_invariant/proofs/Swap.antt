@@ -7,7 +7,7 @@ use borrow.Author.Tests.{le-ltb}
 use Rattle.object.specs.declared.Request.{Request}
 use Rattle.object.specs.declared.Answer.{Answer}
 use Rattle.machine.specs.declared.NodeId.{NodeId}
-use Rattle.dsm_synch.specs.Lines.{L7}
+use Rattle.dsm_lines.specs.Lines.{L7}
 use Rattle.machine.specs.Threads.{withPred}
 use Rattle.invariant.specs.View.{View}
 use Rattle.dsm_invariant.specs.Stages.{wait, w8, stageOf, queued}

@@ -12,10 +12,10 @@ use Rattle.machine.specs.declared.Node.{Node}
 use Rattle.machine.specs.declared.Thread.{Thread}
 use Rattle.machine.specs.Fields.{isNull}
 use Rattle.machine.specs.Lines.{standsAt}
-use Rattle.dsm_synch.specs.Lines.{Line, number, pointed, L26}
+use Rattle.dsm_lines.specs.Lines.{Line, number, pointed, L26}
 use Rattle.dsm_synch.specs.Effect.{meetsNull}
 use Rattle.dsm_synch.proofs.Null.{PointsToNode}
-use Rattle.dsm_synch.proofs.Numbers.{each-line, by-line}
+use Rattle.dsm_lines.proofs.Numbers.{each-line, by-line}
 use Rattle.invariant.specs.View.{View}
 use Rattle.dsm_invariant.specs.Stages.{Stage, out, wait, combine, leave, nowhere, stages, stageOf, queued}
 use Rattle.dsm_invariant.specs.Ledger.{Ledger, nodeNumber, nodeAt}

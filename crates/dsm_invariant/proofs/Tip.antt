@@ -13,8 +13,8 @@ use Rattle.machine.specs.Fields.{isNull}
 use Rattle.machine.specs.Lines.{standsAt}
 use Rattle.machine.specs.Owners.{ownerOf}
 use Rattle.machine.proofs.Owners.{owns-both}
-use Rattle.dsm_synch.specs.Lines.{Line, number, L19}
-use Rattle.dsm_synch.proofs.Numbers.{by-line}
+use Rattle.dsm_lines.specs.Lines.{Line, number, L19}
+use Rattle.dsm_lines.proofs.Numbers.{by-line}
 use Rattle.invariant.specs.View.{View}
 use Rattle.invariant.proofs.Upd.{upd-same}
 use Rattle.dsm_invariant.specs.Stages.{stageOf, queued}

@@ -9,7 +9,7 @@ use Rattle.object.specs.declared.Request.{Request}
 use Rattle.object.specs.declared.Answer.{Answer}
 use Rattle.machine.specs.declared.NodeId.{NodeId}
 use Rattle.machine.specs.Fields.{null, isNull}
-use Rattle.dsm_synch.specs.Lines.{L16, L17, L18, L19, L21, L23, L26}
+use Rattle.dsm_lines.specs.Lines.{L16, L17, L18, L19, L21, L23, L26}
 use Rattle.machine.specs.Threads.{goes}
 use Rattle.invariant.specs.View.{View}
 use Rattle.dsm_invariant.specs.Ledger.{Ledger, noted}

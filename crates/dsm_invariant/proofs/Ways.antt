@@ -10,7 +10,7 @@ use Rattle.object.specs.declared.Answer.{Answer}
 use Rattle.machine.specs.declared.NodeId.{NodeId}
 use Rattle.machine.specs.declared.Node.{Node}
 use Rattle.machine.specs.declared.Thread.{Thread}
-use Rattle.dsm_synch.specs.Lines.{Line}
+use Rattle.dsm_lines.specs.Lines.{Line}
 use Rattle.machine.specs.Threads.{goes, withTmp, withServed}
 use Rattle.invariant.specs.View.{View}
 use Rattle.dsm_invariant.specs.Stages.{stageOf, queued}

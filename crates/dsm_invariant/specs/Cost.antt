@@ -5,7 +5,7 @@ use mathlib.Core.List.{List}
 use lib.Dec.{ltb}
 use Rattle.machine.specs.declared.Method.the-variants.{DsmSynch}
 use Rattle.machine.specs.Owners.{ownerOf}
-use Rattle.dsm_synch.specs.Lines.{Line, accesses}
+use Rattle.dsm_lines.specs.Lines.{Line, accesses}
 use Rattle.copies.specs.Remote.{referredBy}
 use Rattle.step.specs.Entry.{oneIf}
 use Rattle.invariant.specs.View.{View}

@@ -16,7 +16,7 @@ use Rattle.object.specs.Apply.{knows}
 use Rattle.machine.specs.declared.Announced.the-variants.{Asked}
 use Rattle.machine.specs.declared.RetVal.the-variants.{Answered}
 use Rattle.machine.specs.declared.Node.{Node}
-use Rattle.dsm_synch.specs.Lines.{Line}
+use Rattle.dsm_lines.specs.Lines.{Line}
 use Rattle.step.specs.Entry.{appliedAt}
 use Rattle.invariant.specs.View.{View}
 use Rattle.invariant.specs.Serving.{openRequest, Fed, ObjectFits}

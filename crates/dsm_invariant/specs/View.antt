@@ -8,7 +8,7 @@ use Rattle.machine.specs.declared.Node.{Node}
 use Rattle.machine.specs.declared.Effect.{Effect}
 use Rattle.machine.specs.declared.Event.{Event}
 use Rattle.machine.specs.Lines.{standsAt}
-use Rattle.dsm_synch.specs.Lines.{Line, number, empties, pointed, target, eventIn}
+use Rattle.dsm_lines.specs.Lines.{Line, number, empties, pointed, target, eventIn}
 use Rattle.dsm_synch.specs.Effect.{meetsNull, executed}
 use Rattle.invariant.specs.View.{View}
 

@@ -1,5 +1,6 @@
+pub mod NextLine
 pub mod Null
-pub mod Numbers
 pub mod Others
-pub mod Table
+pub mod Refusal
+pub mod Swap
 pub mod Written

@@ -10,7 +10,7 @@ use Rattle.machine.specs.declared.Node.{Node}
 use Rattle.machine.specs.declared.Thread.{Thread}
 use Rattle.machine.specs.Accesses.{toNull}
 use Rattle.machine.specs.Fields.{isNull}
-use Rattle.dsm_synch.specs.Lines.{Line, number, accesses, pointed, L0, L1, L2, L3, L4, L5, L6, L7, L8, L9, L10, L11, L12, L13, L14, L15, L16, L17, L18, L19, L20, L21, L22, L23, L24, L25, L26, L27, L28}
+use Rattle.dsm_lines.specs.Lines.{Line, number, accesses, pointed, L0, L1, L2, L3, L4, L5, L6, L7, L8, L9, L10, L11, L12, L13, L14, L15, L16, L17, L18, L19, L20, L21, L22, L23, L24, L25, L26, L27, L28}
 use Rattle.dsm_synch.specs.Effect.{meetsNull}
 
 module _ (th : Thread) (x : Node) where

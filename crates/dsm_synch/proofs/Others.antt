@@ -7,7 +7,7 @@ use Rattle.object.specs.declared.Answer.{Answer}
 use Rattle.machine.specs.declared.NodeId.{NodeId}
 use Rattle.machine.specs.declared.Node.{Node}
 use Rattle.machine.specs.declared.Thread.{Thread}
-use Rattle.dsm_synch.specs.Lines.{L0, printed}
+use Rattle.dsm_lines.specs.Lines.{L0, printed}
 use Rattle.dsm_synch.specs.Effect.{executed}
 
 abbrev ofCcSynch : Thread → List NodeId

@@ -19,7 +19,7 @@ use Rattle.machine.specs.Fields.{isNull}
 use Rattle.machine.specs.Events.{sameEvent, givenTold, reqTold, retTold}
 use Rattle.machine.specs.Accesses.{Access, read, write, swap, cas}
 use Rattle.machine.proofs.Memory.{FindsSame, ofTail, writtenInto}
-use Rattle.dsm_synch.specs.Lines.{Line, empties, accesses, pointed, target, eventIn, L0, L1, L2, L3, L4, L5, L6, L7, L8, L9, L10, L11, L12, L13, L14, L15, L16, L17, L18, L19, L20, L21, L22, L23, L24, L25, L26, L27, L28}
+use Rattle.dsm_lines.specs.Lines.{Line, empties, accesses, pointed, target, eventIn, L0, L1, L2, L3, L4, L5, L6, L7, L8, L9, L10, L11, L12, L13, L14, L15, L16, L17, L18, L19, L20, L21, L22, L23, L24, L25, L26, L27, L28}
 use Rattle.dsm_synch.specs.Effect.{executed}
 
 -- two entries tell the same: the req that is applied, the ret that is returned, and the node that a Swap is given

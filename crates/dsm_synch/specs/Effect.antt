@@ -11,7 +11,8 @@ use Rattle.machine.specs.declared.Effect.{Effect}
 use Rattle.machine.specs.Fields.{null, isNull, isEmptyReq, isEmptyRet, withReq, withRet, withWait, withCompleted, withNext}
 use Rattle.machine.specs.Owners.{nodeOf}
 use Rattle.machine.specs.Threads.{goes, withMy, withPred, withTmp, withServed, keeping, writing}
-use Rattle.dsm_synch.specs.Lines.{Line, empties, following, L0, L1, L2, L3, L4, L5, L6, L7, L8, L9, L10, L11, L12, L13, L14, L15, L16, L17, L18, L19, L20, L21, L22, L23, L24, L25, L26, L27, L28}
+use Rattle.machine.specs.Lines.{lineRun}
+use Rattle.dsm_lines.specs.Lines.{Line, lineOf, empties, following, L0, L1, L2, L3, L4, L5, L6, L7, L8, L9, L10, L11, L12, L13, L14, L15, L16, L17, L18, L19, L20, L21, L22, L23, L24, L25, L26, L27, L28}
 
 -- line 1 adds 1 to the requests begun, sets the served counter to 0, toggles, and empties myNode, myPredNode and tmpNode
 abbrev pub begins : Thread → ℕ → Thread
@@ -28,6 +29,10 @@ begins th line = record {
   my = null;
   pred = null;
 }
+
+-- the node that line 7's Swap assigns to its call: of Tail's, which it gives, and myNode, which it puts in, the latter
+abbrev pub assigned : Thread → NodeId → NodeId
+assigned th tail = th .my
 
 -- line 16 uses the req of its node, lines 12, 24 and 28 the ret
 abbrev pub usesEmpty : Node → ℕ → Bool
@@ -46,6 +51,14 @@ takesOut th x h line =
     || eqb line 1 && leb (th .count) (th .begun)
     || eqb line 15 && leb h (th .served)
     || usesEmpty x line
+
+-- line 2 takes one of its thread's two nodes: a thread past the 16th has none, and a toggle above 1 names none. So it is 14 where the state is not judged; a state
+-- in range has neither
+abbrev pub noNode : ℕ → Thread → ℕ → Bool
+noNode t th line = eqb line 2 && (leb 16 t || ltb 1 (th .toggle))
+
+abbrev pub isRefused : ℕ → Thread → Node → ℕ → ℕ → Bool
+isRefused t th x h line = takesOut th x h line || noNode t th line
 
 -- thread t, th; x, the node that its line points to, and y, the node behind x; and Tail
 module _ (t : ℕ) (th : Thread) (x y : Node) (tail : NodeId) where
@@ -89,7 +102,16 @@ module _ (t : ℕ) (th : Thread) (x y : Node) (tail : NodeId) where
     lineDoes L27 = writes (withNext x null) on  -- tmpNode→next = null
     lineDoes L28 = keeps (goes th on)  -- return myNode→ret
 
--- the same, with h: the thread goes on to the line that follows
+-- the same, with h
 module _ (t : ℕ) (th : Thread) (x y : Node) (tail : NodeId) (h : ℕ) (request : Request) (answer : Answer) where
+  -- what a printed line does: its thread goes on to the line that follows
   abbrev pub executed : Line → Effect
   executed l = lineDoes t th x y tail request answer (following x y (th .pred) (empties tail (th .tmp)) (th .served) h l) l
+
+  -- a line that is refused is 14, with all as it was; the node is x, at line 26 too
+  abbrev pub refusedEffect : Effect
+  refusedEffect = record { refusal = 14; thread = th; node = x; tail = tail }
+
+  -- what the thread's next line does
+  abbrev pub effectOf : Effect
+  effectOf = cond (isRefused t th x h (lineRun th)) refusedEffect (executed (lineOf (lineRun th)))

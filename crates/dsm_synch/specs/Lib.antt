@@ -1,3 +1,1 @@
 pub mod Effect
-pub mod Lines
-pub mod Said

@@ -31,7 +31,7 @@ abbrev pub remoteSaid : ThreadId → (Location → Bool) → List Access → Lis
 remoteSaid t valid [] = []
 remoteSaid t valid (access ∷ accesses) = not (valid (located access)) ∷ remoteSaid t (λ l. cond (decides t l t access) true (valid l)) accesses
 
--- the same of DSM-Synch, which has no copies: "Tail is remote to everyone; a node is remote to all but its owner". Which accesses are made is `as-tabled` of dsm_synch
+-- the same of DSM-Synch, which has no copies: "Tail is remote to everyone; a node is remote to all but its owner". Which accesses are made is `as-tabled` of dsm_lines
 abbrev pub remoteByOwner : ThreadId → List Access → List Bool
 remoteByOwner t = map (λ access. not (itsOwn (t .0) (located access)))
 

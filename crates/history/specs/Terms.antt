@@ -1,7 +1,7 @@
 -- The terms of demand 3 as document 01 has them, each by the entries of a history alone: calls, Swap order, turns, servings, remote references, when calls began
 -- and returned, records, counts.
 -- They go by what an entry is, and by no line's number, so they are the same for every method; which line is which: the last column of `printedLine` in
--- cc_lines/specs/Lines.antt, and `eventIn` in dsm_synch/specs/Lines.antt.
+-- cc_lines/specs/Lines.antt, and `eventIn` in dsm_lines/specs/Lines.antt.
 use Prim.Native.Nat.{ℕ, _-_}
 use mathlib.Core.Bool.{Bool, false, cond, not, _&&_, _||_}
 use mathlib.Core.List.{List, [], _∷_, _++_, map}

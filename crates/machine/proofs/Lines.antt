@@ -1,10 +1,11 @@
 -- Laws of printed lines and their numbers, for the lines of either method: a list of them, a blank first, numbered from 0; and which one a thread runs. Assumes what
 -- the laws' premises say.
 use Prim.Native.Nat.{ℕ, zero, suc, _+_, _≤_, _<_}
+use native.Mathlib.Numerals.{unary-clauses}
 use native.Mathlib.Omega.{arith}
-use mathlib.Core.Path.{_≡_, sym, ap, subst, _∙_}
-use mathlib.Core.List.{List, [], _∷_}
-use lib.ListN.{length, getD}
+use mathlib.Core.Path.{_≡_, refl, sym, ap, subst, _∙_}
+use mathlib.Core.List.{List, [], _∷_, map}
+use lib.ListN.{length, getD, List·getD-map}
 use borrow.Author.Tests.{ne-eqb, lt-ltb, le-ltb, lt-leb}
 use Rattle.object.specs.Each.{Each}
 use Rattle.object.proofs.Choice.{by-equal, by-order}
@@ -29,9 +30,28 @@ module _ {Line : Type 0} (number : Line → ℕ) (blank : Line) where
     pub each-of : (P : Line → Type 0) → Each P lines → P blank → (l : Line) → P l
     each-of P each none l = subst P (line-at l) (each-getD-or P lines (number l) blank each none)
 
+    -- two functions of a line that give the same list of all lines agree on every line
+    pub agree-on : {A : Type 0} (f g : Line → A) → map f lines ≡ map g lines → f blank ≡ g blank → (l : Line) → f l ≡ g l
+    agree-on f g same none l =
+        subst (λ (k : Line). f k ≡ g k) (line-at l)
+        (sym (List·getD-map f lines (number l) blank)
+        ∙ ap (λ (a : List _). getD a (number l) (f blank)) same
+        ∙ ap (getD (map g lines) (number l)) none
+        ∙ List·getD-map g lines (number l) blank)
+
     -- a line whose number is known
     pub by-number : (P : Line → Type 0) (l : Line) {k : ℕ} → number l ≡ k → P (getD lines k blank) → P l
     by-number P l q p = subst P (sym (ap (λ (k : ℕ). getD lines k blank) q) ∙ line-at l) p
+
+-- place k of a table of the printed lines holds what is beside line k + 1; past the table stands `none`
+module _ {Line A : Type 0} (f : Line → A) (blank : Line) (none : A) where
+  in-table : (printed : List Line) (k : ℕ) → k < length printed → getD (map f printed) k none ≡ f (getD printed k blank)
+  in-table [] k h = absurd (omega arith)
+  in-table (l ∷ ls) zero h = refl
+  in-table (l ∷ ls) (suc k) h = in-table ls k (omega arith)
+
+  pub table-at : (printed : List Line) (k : ℕ) → k < length printed → getD (map f printed) k none ≡ f (getD (blank ∷ printed) (k + 1) blank)
+  table-at printed k h = simp unary-clauses (in-table printed k h)
 
 -- a thread that stands at line 0, or at one from 2 to the last printed, runs the one that it stands at; idle, line 1 if it has a request left, else none
 pub record RunsNext (th : Thread) (last : ℕ) : Type 0 where

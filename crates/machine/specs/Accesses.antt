@@ -1,26 +1,30 @@
 -- The shared accesses of a line, the only source of remote references, and the locations that they go to.
 -- An access is of one field; caches fetch nodes, so its location is the whole node: document 02, No. 5.
-use mathlib.Core.Bool.{Bool, true, false, _||_}
+use mathlib.Core.Bool.{Bool, true, false, cond, not, _&&_, _||_}
 use mathlib.Core.List.{List, [], _∷_, _++_}
 use lib.Dec.{eqb}
 use Rattle.machine.specs.declared.NodeId.{NodeId}
 use Rattle.machine.specs.declared.Thread.{Thread}
 use Rattle.machine.specs.declared.Pointer.{Pointer}
-use Rattle.machine.specs.declared.Pointer.the-variants.{Own, Cur, Tmp}
+use Rattle.machine.specs.declared.Pointer.the-variants.{Own, Cur, Tmp, My, Pred}
 use Rattle.machine.specs.declared.Field.{Field}
 use Rattle.machine.specs.declared.SharedAccess.{SharedAccess}
-use Rattle.machine.specs.declared.SharedAccess.the-variants.{NoAccess, Read, Write, Swap}
+use Rattle.machine.specs.declared.SharedAccess.the-variants.{NoAccess, Read, Write, Swap, Cas, ReadBehind, WriteBehind}
+use Rattle.machine.specs.declared.PrintedLine.{PrintedLine}
+use Rattle.machine.specs.declared.PrintedLine.the-variants.{Local, One, Two, Three}
 use Rattle.machine.specs.declared.Row.{Row}
 use Rattle.machine.specs.Fields.{isNull}
 
--- the node that a pointer of a thread of CC-Synch gives: the thread's own node, curNode or tmpNode
-abbrev pub pointedOf : Pointer → NodeId → NodeId → NodeId → NodeId
-pointedOf Own own cur tmp = own
-pointedOf Cur own cur tmp = cur
-pointedOf Tmp own cur tmp = tmp
+-- the node that a pointer gives: of CC-Synch the thread's own node, curNode or tmpNode, of DSM-Synch myNode, myPredNode or tmpNode
+abbrev pub pointedOf : Pointer → NodeId → NodeId → NodeId → NodeId → NodeId → NodeId
+pointedOf Own own cur tmp my pred = own
+pointedOf Cur own cur tmp my pred = cur
+pointedOf Tmp own cur tmp my pred = tmp
+pointedOf My own cur tmp my pred = my
+pointedOf Pred own cur tmp my pred = pred
 
 abbrev pub pointed : Pointer → Thread → NodeId
-pointed pointer th = pointedOf pointer (th .own) (th .cur) (th .tmp)
+pointed pointer th = pointedOf pointer (th .own) (th .cur) (th .tmp) (th .my) (th .pred)
 
 -- an access reads or writes one field of one node, or is a Swap or a CAS on Tail
 pub data Access : Type 0 where
@@ -48,15 +52,52 @@ located (write node field) = whole node
 located swap = tail
 located cas = tail
 
-abbrev pub accessTo : NodeId → SharedAccess → List Access
-accessTo node NoAccess = []
-accessTo node (Read field) = read node field ∷ []
-accessTo node (Write field) = write node field ∷ []
-accessTo node Swap = swap ∷ []
+-- a row from its printed line
+abbrev pub rowFrom : PrintedLine → Row
+rowFrom (Local node event) = record { node = node; first = NoAccess; second = NoAccess; third = NoAccess; event = event }
+rowFrom (One node first event) = record { node = node; first = first; second = NoAccess; third = NoAccess; event = event }
+rowFrom (Two node first second event) = record { node = node; first = first; second = second; third = NoAccess; event = event }
+rowFrom (Three node first second third event) = record { node = node; first = first; second = second; third = third; event = event }
 
--- the accesses of a row, in order
-abbrev pub accessesOf : Row → NodeId → List Access
-accessesOf row node = accessTo node (row .first) ++ accessTo node (row .second)
+-- whether a row's access is none, and whether it writes the node behind
+abbrev pub isNone : SharedAccess → Bool
+isNone NoAccess = true
+isNone (Read field) = false
+isNone (Write field) = false
+isNone Swap = false
+isNone Cas = false
+isNone (ReadBehind field) = false
+isNone (WriteBehind field) = false
+
+abbrev pub writesBehind : SharedAccess → Bool
+writesBehind NoAccess = false
+writesBehind (Read field) = false
+writesBehind (Write field) = false
+writesBehind Swap = false
+writesBehind Cas = false
+writesBehind (ReadBehind field) = false
+writesBehind (WriteBehind field) = true
+
+-- the node that a line points to, and the one behind it, which its next gives
+module _ (node behind : NodeId) where
+  abbrev pub accessTo : SharedAccess → List Access
+  accessTo NoAccess = []
+  accessTo (Read field) = read node field ∷ []
+  accessTo (Write field) = write node field ∷ []
+  accessTo Swap = swap ∷ []
+  accessTo Cas = cas ∷ []
+  accessTo (ReadBehind field) = read behind field ∷ []
+  accessTo (WriteBehind field) = write behind field ∷ []
+
+-- the accesses of a row, in order; of three those after the first are made only where the node has a next: a test that finds null reads no further
+abbrev pub accessesOf : Row → NodeId → NodeId → List Access
+accessesOf row node behind =
+    accessTo node behind (row .first)
+    ++ cond (not (isNone (row .third)) && isNull behind) [] (accessTo node behind (row .second) ++ accessTo node behind (row .third))
+
+-- the node that a line writes, if it writes one: the one behind where its second access does
+abbrev pub writtenOf : Row → NodeId → NodeId → NodeId
+writtenOf row node behind = cond (writesBehind (row .second)) behind node
 
 -- whether one of a list of accesses goes to null
 abbrev pub toNull : List Access → Bool

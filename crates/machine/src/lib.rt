@@ -1,10 +1,12 @@
 // Threads, nodes and Tail, the accesses of a line to them, and what an entry is. What a printed line does is not looked at here.
 ghost use mathlib.Core.Path.{_≡_};
+ghost use mathlib.Core.Bool.{cond};
 ghost use Rattle.machine.specs.Fields.{isNull, isEmptyReq, isEmptyRet};
-ghost use Rattle.machine.specs.Accesses.{pointedOf};
-ghost use Rattle.machine.specs.Events.{eventNumber, sameEvent};
+ghost use Rattle.machine.specs.Accesses.{pointedOf, rowFrom, isNone, writesBehind, writtenOf};
+ghost use Rattle.machine.specs.Events.{eventNumber, sameEvent, stays, isCas, eventFound};
 ghost use Rattle.machine.specs.Lines.{lineRun};
 ghost use Rattle.machine.specs.Methods.{methodNumber, methodOf, lastLine};
+ghost use Rattle.machine.specs.Fields.{withReq, withRet};
 use object::Answer;
 use object::Request;
 
@@ -66,11 +68,13 @@ pub struct Thread {
     pub pred: NodeId, // myPredNode of DSM-Synch
 }
 
-// Which of its variables a line of CC-Synch goes through to a node.
+// Which of its variables a line goes through to a node.
 pub enum Pointer {
     Own,
     Cur,
     Tmp,
+    My,
+    Pred,
 }
 
 pub enum Field {
@@ -81,12 +85,15 @@ pub enum Field {
     Next,
 }
 
-// A shared access of a line of CC-Synch: of a field of the node that it points to, or a Swap on Tail.
+// A shared access of a line: of a field of the node that it points to, or of the node behind that, its next; or a Swap or a CAS on Tail.
 pub enum SharedAccess {
     NoAccess,
     Read(Field),
     Write(Field),
     Swap,
+    Cas,
+    ReadBehind(Field),
+    WriteBehind(Field),
 }
 
 // What an entry is: the terms, counts and records of a run go by it, and by no line's number. No entry is two of these.
@@ -102,11 +109,21 @@ pub enum Event {
     Other,
 }
 
-// A line's row of CC-Synch's table: the node that it points to, its accesses in order, and what an entry of it is; a line that spins does so only where it stays.
+// A printed line as a method's table has it: the node that it points to, its shared accesses in order, and what an entry of it is. `Spins` is said of a line that
+// may, and `TurnEnds` of one that does so by a CAS if that succeeds.
+pub enum PrintedLine {
+    Local(Pointer, Event),
+    One(Pointer, SharedAccess, Event),
+    Two(Pointer, SharedAccess, SharedAccess, Event),
+    Three(Pointer, SharedAccess, SharedAccess, SharedAccess, Event),
+}
+
+// The same in one form, `NoAccess` where there is none: a line's row. Of three accesses those after the first are made only where the node has a next.
 pub struct Row {
     pub node: Pointer,
     pub first: SharedAccess,
     pub second: SharedAccess,
+    pub third: SharedAccess,
     pub event: Event,
 }
 
@@ -172,6 +189,35 @@ pub fn is_empty_ret(ret: RetVal) -> bool
     }
 }
 
+// A node with its req or its ret written.
+pub fn with_req(node: Node, request: Request) -> Node
+    ensures { λ r. ⌜ r ≡ withReq node request ⌝ }
+{
+    let ret = node.ret;
+    let next = node.next;
+    Node {
+        req: Announced::Asked(request),
+        ret,
+        wait: node.wait,
+        completed: node.completed,
+        next,
+    }
+}
+
+pub fn with_ret(node: Node, answer: Answer) -> Node
+    ensures { λ r. ⌜ r ≡ withRet node answer ⌝ }
+{
+    let req = node.req;
+    let next = node.next;
+    Node {
+        req,
+        ret: RetVal::Answered(answer),
+        wait: node.wait,
+        completed: node.completed,
+        next,
+    }
+}
+
 // The line that the thread's entry runs, 0 for a blank.
 pub fn line_run(thread: Thread) -> u8
     ensures { λ r. ⌜ r ≡ lineRun thread ⌝ }
@@ -185,15 +231,100 @@ pub fn line_run(thread: Thread) -> u8
     thread.line
 }
 
-// The node that a line of CC-Synch points to, of the three that its thread's variables give.
-pub fn pointed(pointer: Pointer, own: NodeId, cur: NodeId, tmp: NodeId) -> NodeId
-    ensures { λ r. ⌜ r ≡ pointedOf pointer own cur tmp ⌝ }
+// The node that a line points to, of those that its thread's variables give.
+pub fn pointed(
+    pointer: Pointer,
+    own: NodeId,
+    cur: NodeId,
+    tmp: NodeId,
+    my: NodeId,
+    pred: NodeId,
+) -> NodeId
+    ensures { λ r. ⌜ r ≡ pointedOf pointer own cur tmp my pred ⌝ }
 {
     match pointer {
         Pointer::Own => own,
         Pointer::Cur => cur,
         Pointer::Tmp => tmp,
+        Pointer::My => my,
+        Pointer::Pred => pred,
     }
+}
+
+// The row of a printed line.
+pub fn row_from(printed: PrintedLine) -> Row
+    ensures { λ r. ⌜ r ≡ rowFrom printed ⌝ }
+{
+    match printed {
+        PrintedLine::Local(node, event) => Row {
+            node,
+            first: SharedAccess::NoAccess,
+            second: SharedAccess::NoAccess,
+            third: SharedAccess::NoAccess,
+            event,
+        },
+        PrintedLine::One(node, first, event) => Row {
+            node,
+            first,
+            second: SharedAccess::NoAccess,
+            third: SharedAccess::NoAccess,
+            event,
+        },
+        PrintedLine::Two(node, first, second, event) => Row {
+            node,
+            first,
+            second,
+            third: SharedAccess::NoAccess,
+            event,
+        },
+        PrintedLine::Three(node, first, second, third, event) => Row {
+            node,
+            first,
+            second,
+            third,
+            event,
+        },
+    }
+}
+
+// Whether a row's access is none.
+pub fn is_none(access: SharedAccess) -> bool
+    ensures { λ r. ⌜ r ≡ isNone access ⌝ }
+{
+    match access {
+        SharedAccess::NoAccess => true,
+        SharedAccess::Read(_) => false,
+        SharedAccess::Write(_) => false,
+        SharedAccess::Swap => false,
+        SharedAccess::Cas => false,
+        SharedAccess::ReadBehind(_) => false,
+        SharedAccess::WriteBehind(_) => false,
+    }
+}
+
+fn writes_behind(access: SharedAccess) -> bool
+    ensures { λ r. ⌜ r ≡ writesBehind access ⌝ }
+{
+    match access {
+        SharedAccess::NoAccess => false,
+        SharedAccess::Read(_) => false,
+        SharedAccess::Write(_) => false,
+        SharedAccess::Swap => false,
+        SharedAccess::Cas => false,
+        SharedAccess::ReadBehind(_) => false,
+        SharedAccess::WriteBehind(_) => true,
+    }
+}
+
+// The node that a line writes, if it writes one: the one behind the pointed node where the row's second access says so.
+pub fn written(row: Row, node: NodeId, behind: NodeId) -> NodeId
+    ensures { λ r. ⌜ r ≡ writtenOf row node behind ⌝ }
+{
+    let second = row.second;
+    if writes_behind(second) {
+        return behind;
+    }
+    node
 }
 
 fn event_number(event: Event) -> u8
@@ -216,4 +347,82 @@ pub fn same_event(event: Event, other: Event) -> bool
     ensures { λ r. ⌜ r ≡ sameEvent event other ⌝ }
 {
     event_number(event) == event_number(other)
+}
+
+// Whether a line that waits by an access stays: for wait while it is true, for next while it is null.
+fn stays(access: SharedAccess, wait: bool, last: bool) -> bool
+    ensures { λ r. ⌜ r ≡ stays access wait last ⌝ }
+{
+    match access {
+        SharedAccess::NoAccess => false,
+        SharedAccess::Read(field) => match field {
+            Field::Req => false,
+            Field::Ret => false,
+            Field::Wait => wait,
+            Field::Completed => false,
+            Field::Next => last,
+        },
+        SharedAccess::Write(_) => false,
+        SharedAccess::Swap => false,
+        SharedAccess::Cas => false,
+        SharedAccess::ReadBehind(_) => false,
+        SharedAccess::WriteBehind(_) => false,
+    }
+}
+
+// A spin, if the line stays.
+fn spin_or_other(access: SharedAccess, node: Node) -> Event
+    ensures { λ r. ⌜ r ≡ cond (stays access (node .wait) (isNull (node .next))) Event.Spins Event.Other ⌝ }
+{
+    let next = node.next;
+    if stays(access, node.wait, is_null(next)) {
+        return Event::Spins;
+    }
+    Event::Other
+}
+
+fn is_cas(access: SharedAccess) -> bool
+    ensures { λ r. ⌜ r ≡ isCas access ⌝ }
+{
+    match access {
+        SharedAccess::NoAccess => false,
+        SharedAccess::Read(_) => false,
+        SharedAccess::Write(_) => false,
+        SharedAccess::Swap => false,
+        SharedAccess::Cas => true,
+        SharedAccess::ReadBehind(_) => false,
+        SharedAccess::WriteBehind(_) => false,
+    }
+}
+
+// The end of a turn, by a CAS only if it succeeds.
+fn end_or_other(access: SharedAccess, emptied: bool) -> Event
+    ensures { λ r. ⌜ r ≡ cond (isCas access) (cond emptied Event.TurnEnds Event.Other) Event.TurnEnds ⌝ }
+{
+    if is_cas(access) {
+        if emptied {
+            return Event::TurnEnds;
+        }
+        return Event::Other;
+    }
+    Event::TurnEnds
+}
+
+// What an entry of a row is: as the row has it, but a spin only where the line stays, and the end of a turn by a CAS only if that succeeds.
+pub fn event_in(row: Row, node: Node, emptied: bool) -> Event
+    ensures { λ r. ⌜ r ≡ eventFound row node emptied ⌝ }
+{
+    let event = row.event;
+    let first = row.first;
+    match event {
+        Event::Blank => Event::Blank,
+        Event::CallBegins => Event::CallBegins,
+        Event::Swaps => Event::Swaps,
+        Event::TurnBegins => Event::TurnBegins,
+        Event::Applies => Event::Applies,
+        Event::TurnEnds => end_or_other(first, emptied),
+        Event::Returns => Event::Returns,
+        Event::Spins => spin_or_other(first, node),
+        Event::Other => Event::Other,
+    }
 }

@@ -1,5 +1,5 @@
--- What the range tests of a pointer, a thread, a node, the counts and a state say, as facts. Assumes nothing.
-use Prim.Native.Nat.{ℕ, zero, suc, _+_, _^_, _≤_, _<_}
+-- What the range tests of a pointer, a thread, a node, the counts and a state say, as facts, by either method. Assumes nothing.
+use Prim.Native.Nat.{ℕ, zero, suc, _+_, _*_, _^_, _≤_, _<_}
 use native.Mathlib.Omega.{arith}
 use native.Mathlib.Decide.{decLe}
 use mathlib.Core.Path.{_≡_, refl}
@@ -12,12 +12,16 @@ use Rattle.object.specs.declared.Kind.{Kind}
 use Rattle.object.specs.Paper.{within}
 use Rattle.object.specs.Apply.{heldInRange}
 use Rattle.object.specs.Each.{every}
+use Rattle.machine.specs.declared.Method.{Method}
+use Rattle.machine.specs.declared.Method.the-variants.{CcSynch, DsmSynch}
 use Rattle.machine.specs.declared.NodeId.{NodeId}
 use Rattle.machine.specs.declared.Node.{Node}
 use Rattle.machine.specs.declared.Thread.{Thread}
+use Rattle.machine.specs.Methods.{lastLine, lastNode, tailNullable}
+use Rattle.machine.specs.Sizes.{mostNodes}
 use Rattle.state.specs.declared.Counts.{Counts}
 use Rattle.state.specs.declared.State.{State}
-use Rattle.state.specs.Range.{pointerInRange, lineInRange, threadInRange, reqInRange, retInRange, nodeInRange, rowsInRange, headInRange, countsInRange, inRange}
+use Rattle.state.specs.Range.{pointerInRange, lineInRange, pointersInRange, threadInRange, reqInRange, retInRange, nodeInRange, rowsInRange, headInRange, countsInRange, inRangeBy}
 
 -- a node, or null
 pub data NodeOrNull (n m : ℕ) : Type 0 where
@@ -38,16 +42,30 @@ abbrev pub Begun : ℕ → ℕ → Type 0
 Begun zero begun = Unit
 Begun (suc line) begun = 0 < begun
 
+-- the facts of a thread's variables at a line
+pub record CcPointers (last : ℕ) (th : Thread) (line : ℕ) : Type 0 where
+  pub own : th .own .0 ≤ last
+  pub cur : Points last (ltb line 6) (th .cur)
+  pub tmp : Points last (ltb line 13 || eqb line 21) (th .tmp)
+  pub tmpnext : NodeOrNull last (th .tmpnext .0)
+
+pub record DsmPointers (last : ℕ) (th : Thread) (line : ℕ) : Type 0 where
+  pub toggle : th .toggle ≤ 1
+  pub my : Points last (ltb line 3) (th .my)
+  pub pred : NodeOrNull last (th .pred .0)
+  pub tmp : Points last (ltb line 14) (th .tmp)
+
+abbrev pub PointersFit : Method → ℕ → Thread → ℕ → Type 0
+PointersFit CcSynch last th line = CcPointers last th line
+PointersFit DsmSynch last th line = DsmPointers last th line
+
 -- the facts of a thread at a line
-pub record ThreadFits (n h : ℕ) (th : Thread) (line : ℕ) : Type 0 where
+pub record ThreadFits (m : Method) (last h : ℕ) (th : Thread) (line : ℕ) : Type 0 where
   pub few : th .count ≤ 16
   pub counted : th .begun ≤ th .count
   pub begun : Begun line (th .begun)
-  pub a-line : lineInRange line ≡ true
-  pub own : th .own .0 ≤ n
-  pub cur : Points n (ltb line 6) (th .cur)
-  pub tmp : Points n (ltb line 13 || eqb line 21) (th .tmp)
-  pub tmpnext : NodeOrNull n (th .tmpnext .0)
+  pub a-line : lineInRange (lastLine m) line ≡ true
+  pub pointers : PointersFit m last th line
   pub served : th .served ≤ h
 
 pub leb-iff : (a b : ℕ) → (leb a b ≡ true) ↔ (a ≤ b)
@@ -95,11 +113,21 @@ counts-iff c = (to, λ f. simp range-facts (search f))
     to : countsInRange c ≡ true → CountsFit c
     to e = let p = simp range-facts at e in search p
 
-pub thread-iff : (n h : ℕ) (th : Thread) → (threadInRange n h th ≡ true) ↔ ThreadFits n h th (th .line)
-thread-iff n h th = (to, λ f. simp range-facts (search f depth 9))
+pub pointers-iff : (m : Method) (last : ℕ) (th : Thread) → (pointersInRange m last th ≡ true) ↔ PointersFit m last th (th .line)
+pointers-iff CcSynch last th = (to, λ f. simp range-facts (search f))
   where
-    to : threadInRange n h th ≡ true → ThreadFits n h th (th .line)
+    to : pointersInRange CcSynch last th ≡ true → CcPointers last th (th .line)
     to e = let p = simp range-facts at e in search p
+pointers-iff DsmSynch last th = (to, λ f. simp range-facts (search f))
+  where
+    to : pointersInRange DsmSynch last th ≡ true → DsmPointers last th (th .line)
+    to e = let p = simp range-facts at e in search p
+
+pub thread-iff : (m : Method) (last h : ℕ) (th : Thread) → (threadInRange m last h th ≡ true) ↔ ThreadFits m last h th (th .line)
+thread-iff m last h th = (to, λ f. simp (range-facts, pointers-iff) (search f depth 9))
+  where
+    to : threadInRange m last h th ≡ true → ThreadFits m last h th (th .line)
+    to e = let p = simp (range-facts, pointers-iff) at e in search p
 
 -- the facts of a node
 pub record NodeFits (kind : Kind) (capacity n : ℕ) (x : Node) : Type 0 where
@@ -113,24 +141,31 @@ node-iff kind capacity n x = (to, λ f. simp range-facts (search f))
     to : nodeInRange kind capacity n x ≡ true → NodeFits kind capacity n x
     to e = let p = simp range-facts at e in search p
 
--- there are at most 16 threads
-pub few-threads : (s : State) → headInRange s ≡ true → s .n ≤ 16
+-- there are 1 to 16 threads
+pub few-threads : (s : State) → headInRange s ≡ true → (0 < s .n) × (s .n ≤ 16)
 few-threads s e = let p = simp range-facts at e in search p
 
+-- and room for their nodes
+pub nodes-held : (m : Method) (n : ℕ) → 0 < n → n ≤ 16 → lastNode m n < mostNodes
+nodes-held CcSynch n some few = omega arith
+nodes-held DsmSynch n some few = omega arith
+
 -- the facts of a state
-pub record StateFits (s : State) : Type 0 where
+pub record StateFits (m : Method) (s : State) : Type 0 where
+  pub some : 0 < s .n
   pub small : s .n ≤ 16
   pub limits : (within 1 (s .n) 16 && within 1 (s .h) 255) ≡ true
   pub held : heldInRange (s .kind) (s .capacity) (s .object .held) ≡ true
-  pub tail : s .tail .0 ≤ s .n
-  pub threads : every (threadInRange (s .n) (s .h)) (take (s .n) (s .threads)) ≡ true
-  pub nodes : every (nodeInRange (s .kind) (s .capacity) (s .n)) (take (s .n + 1) (s .nodes)) ≡ true
+  pub tail : Points (lastNode m (s .n)) (tailNullable m) (s .tail)
+  pub threads : every (threadInRange m (lastNode m (s .n)) (s .h)) (take (s .n) (s .threads)) ≡ true
+  pub nodes : every (nodeInRange (s .kind) (s .capacity) (lastNode m (s .n))) (take (lastNode m (s .n) + 1) (s .nodes)) ≡ true
   pub rows : rowsInRange (s .kind) (s .requests) 0 (take (s .n) (s .threads)) ≡ true
 
-pub state-fits : (s : State) → inRange s ≡ true → StateFits s
-state-fits s e =
+pub state-fits : (m : Method) (s : State) → inRangeBy m s ≡ true → StateFits m s
+state-fits m s e =
     let p = simp range-facts at e in
     record {
+      some = search p;
       small = search p;
       limits = simp range-facts (search p);
       held = simp range-facts (search p);
@@ -139,3 +174,7 @@ state-fits s e =
       nodes = search p;
       rows = search p;
     }
+
+-- the nodes in use are held
+pub nodes-there : (m : Method) (s : State) → StateFits m s → lastNode m (s .n) < mostNodes
+nodes-there m s facts = nodes-held m (s .n) (facts .some) (facts .small)

@@ -50,6 +50,7 @@ freshTail DsmSynch = null
 -- the machine of a method, of a file's head, its counts and its requests
 abbrev pub freshStateBy : Method → Kind → ℕ → ℕ → ℕ → List ℕ → List Slot → State
 freshStateBy m kind n h capacity counts requests = record {
+  method = m;
   n = n;
   h = h;
   kind = kind;

@@ -1,10 +1,12 @@
-// The state of a single step: the machine, the requests, the copies, the object and the counts; and whether the numbers that CC-Synch uses are in range.
+// The state of a single step: the machine, the requests, the copies, the object and the counts; and whether the numbers that its method uses are in range.
 ghost use mathlib.Core.Path.{_≡_};
-ghost use Prim.Native.Nat.{_+_, _≤_};
+ghost use Prim.Native.Nat.{_+_, _≤_, _<_};
 ghost use lib.ListN.{take};
 ghost use Rattle.object.specs.Each.{every};
-ghost use Rattle.state.specs.Range.{pointerInRange, lineInRange, requestsInRange, threadInRange, reqInRange, retInRange, nodeInRange, slotInRange, rowOfThread, rowsInRange, headInRange, inRange};
+ghost use Rattle.machine.specs.Methods.{lastNode, tailNullable};
+ghost use Rattle.state.specs.Range.{pointerInRange, lineInRange, requestsInRange, ccPointersInRange, dsmPointersInRange, pointersInRange, threadInRange, reqInRange, retInRange, nodeInRange, slotInRange, rowOfThread, rowsInRange, headInRange, inRange};
 use machine::Announced;
+use machine::Method;
 use machine::Node;
 use machine::NodeId;
 use machine::RetVal;
@@ -27,8 +29,9 @@ pub struct Counts {
     pub remote: u32,
 }
 
-// Thread i's requests stand from place 16 · i on. The copies of Tail come first, then those of each node.
+// The machine of a method. Thread i's requests stand from place 16 · i on. The copies of Tail come first, then those of each node.
 pub struct State {
+    pub method: Method,
     pub n: u8,
     pub h: u8,
     pub kind: Kind,
@@ -42,17 +45,37 @@ pub struct State {
     pub counts: Counts,
 }
 
-fn pointer_in_range(n: u8, nullable: bool, node: NodeId) -> bool
-    ensures { λ r. ⌜ r ≡ pointerInRange n nullable node ⌝ }
+// The last node of n threads.
+fn last_node(method: Method, n: u8) -> u8
+    requires { ⌜ (0 < n) × (n ≤ 16) ⌝ }
+    ensures { λ r. ⌜ r ≡ lastNode method n ⌝ }
 {
-    let null = machine::is_null(node);
-    (node.0 <= n) | null & nullable
+    match method {
+        Method::CcSynch => n,
+        Method::DsmSynch => 2 * n - 1,
+    }
 }
 
-fn line_in_range(line: u8) -> bool
-    ensures { λ r. ⌜ r ≡ lineInRange line ⌝ }
+fn tail_nullable(method: Method) -> bool
+    ensures { λ r. ⌜ r ≡ tailNullable method ⌝ }
 {
-    let printed = object::between(2, line, 21);
+    match method {
+        Method::CcSynch => false,
+        Method::DsmSynch => true,
+    }
+}
+
+fn pointer_in_range(last: u8, nullable: bool, node: NodeId) -> bool
+    ensures { λ r. ⌜ r ≡ pointerInRange last nullable node ⌝ }
+{
+    let null = machine::is_null(node);
+    (node.0 <= last) | null & nullable
+}
+
+fn line_in_range(last: u8, line: u8) -> bool
+    ensures { λ r. ⌜ r ≡ lineInRange last line ⌝ }
+{
+    let printed = object::between(2, line, last);
     (line == 0) | printed
 }
 
@@ -64,21 +87,51 @@ fn requests_in_range(thread: Thread) -> bool
         & ((thread.line == 0) | (1 <= thread.begun))
 }
 
-fn thread_in_range(n: u8, h: u8, thread: Thread) -> bool
-    ensures { λ r. ⌜ r ≡ threadInRange n h thread ⌝ }
+fn cc_pointers_in_range(last: u8, thread: Thread) -> bool
+    ensures { λ r. ⌜ r ≡ ccPointersInRange last thread ⌝ }
 {
     let line = thread.line;
     let own = thread.own;
     let cur = thread.cur;
     let tmp = thread.tmp;
     let tmpnext = thread.tmpnext;
+    let own_fits = pointer_in_range(last, false, own);
+    let cur_fits = pointer_in_range(last, line < 6, cur);
+    let tmp_fits = pointer_in_range(last, (line < 13) | (line == 21), tmp);
+    let tmpnext_fits = pointer_in_range(last, true, tmpnext);
+    own_fits & cur_fits & tmp_fits & tmpnext_fits
+}
+
+fn dsm_pointers_in_range(last: u8, thread: Thread) -> bool
+    ensures { λ r. ⌜ r ≡ dsmPointersInRange last thread ⌝ }
+{
+    let line = thread.line;
+    let my = thread.my;
+    let pred = thread.pred;
+    let tmp = thread.tmp;
+    let my_fits = pointer_in_range(last, line < 3, my);
+    let pred_fits = pointer_in_range(last, true, pred);
+    let tmp_fits = pointer_in_range(last, line < 14, tmp);
+    (thread.toggle <= 1) & my_fits & pred_fits & tmp_fits
+}
+
+fn pointers_in_range(method: Method, last: u8, thread: Thread) -> bool
+    ensures { λ r. ⌜ r ≡ pointersInRange method last thread ⌝ }
+{
+    match method {
+        Method::CcSynch => cc_pointers_in_range(last, thread),
+        Method::DsmSynch => dsm_pointers_in_range(last, thread),
+    }
+}
+
+fn thread_in_range(method: Method, last: u8, h: u8, thread: Thread) -> bool
+    ensures { λ r. ⌜ r ≡ threadInRange method last h thread ⌝ }
+{
     let requests_fit = requests_in_range(thread);
-    let line_fits = line_in_range(line);
-    let own_fits = pointer_in_range(n, false, own);
-    let cur_fits = pointer_in_range(n, line < 6, cur);
-    let tmp_fits = pointer_in_range(n, (line < 13) | (line == 21), tmp);
-    let tmpnext_fits = pointer_in_range(n, true, tmpnext);
-    requests_fit & line_fits & own_fits & cur_fits & tmp_fits & tmpnext_fits & (thread.served <= h)
+    let last_line = machine::last_line(method);
+    let line_fits = line_in_range(last_line, thread.line);
+    let pointers_fit = pointers_in_range(method, last, thread);
+    requests_fit & line_fits & pointers_fit & (thread.served <= h)
 }
 
 fn req_in_range(kind: Kind, req: Announced) -> bool
@@ -99,27 +152,27 @@ fn ret_in_range(capacity: u8, ret: RetVal) -> bool
     }
 }
 
-fn node_in_range(kind: Kind, capacity: u8, n: u8, node: Node) -> bool
-    ensures { λ r. ⌜ r ≡ nodeInRange kind capacity n node ⌝ }
+fn node_in_range(kind: Kind, capacity: u8, last: u8, node: Node) -> bool
+    ensures { λ r. ⌜ r ≡ nodeInRange kind capacity last node ⌝ }
 {
     let req = node.req;
     let ret = node.ret;
     let next = node.next;
     let req_fits = req_in_range(kind, req);
     let ret_fits = ret_in_range(capacity, ret);
-    let next_fits = pointer_in_range(n, true, next);
+    let next_fits = pointer_in_range(last, true, next);
     req_fits & ret_fits & next_fits
 }
 
-fn threads_in_range(n: u8, h: u8, threads: [Thread; 16]) -> bool
+fn threads_in_range(method: Method, last: u8, h: u8, n: u8, threads: [Thread; 16]) -> bool
     requires { ⌜ n ≤ 16 ⌝ }
-    ensures { λ r. ⌜ r ≡ every (threadInRange n h) (take n threads) ⌝ }
+    ensures { λ r. ⌜ r ≡ every (threadInRange method last h) (take n threads) ⌝ }
 {
     let count = n as usize;
     let mut i: usize = 0;
     while i < count {
         let thread = threads[i];
-        if !thread_in_range(n, h, thread) {
+        if !thread_in_range(method, last, h, thread) {
             return false;
         }
         i += 1;
@@ -127,15 +180,15 @@ fn threads_in_range(n: u8, h: u8, threads: [Thread; 16]) -> bool
     true
 }
 
-fn nodes_in_range(kind: Kind, capacity: u8, n: u8, nodes: [Node; machine::NODES]) -> bool
-    requires { ⌜ n ≤ 16 ⌝ }
-    ensures { λ r. ⌜ r ≡ every (nodeInRange kind capacity n) (take (n + 1) nodes) ⌝ }
+fn nodes_in_range(kind: Kind, capacity: u8, last: u8, nodes: [Node; machine::NODES]) -> bool
+    requires { ⌜ last ≤ 31 ⌝ }
+    ensures { λ r. ⌜ r ≡ every (nodeInRange kind capacity last) (take (last + 1) nodes) ⌝ }
 {
-    let count = (n as usize) + 1;
+    let count = (last as usize) + 1;
     let mut i: usize = 0;
     while i < count {
         let node = nodes[i];
-        if !node_in_range(kind, capacity, n, node) {
+        if !node_in_range(kind, capacity, last, node) {
             return false;
         }
         i += 1;
@@ -196,16 +249,18 @@ pub fn in_range(state: State) -> bool
     if !head_in_range(state) {
         return false;
     }
+    let method = state.method;
     let n = state.n;
-    let h = state.h;
     let kind = state.kind;
     let tail = state.tail;
     let threads = state.threads;
     let nodes = state.nodes;
     let requests = state.requests;
-    let tail_fits = pointer_in_range(n, false, tail);
-    let threads_fit = threads_in_range(n, h, threads);
-    let nodes_fit = nodes_in_range(kind, state.capacity, n, nodes);
+    let last = last_node(method, n);
+    let nullable = tail_nullable(method);
+    let tail_fits = pointer_in_range(last, nullable, tail);
+    let threads_fit = threads_in_range(method, last, state.h, n, threads);
+    let nodes_fit = nodes_in_range(kind, state.capacity, last, nodes);
     let rows_fit = rows_in_range(kind, requests, n, threads);
     tail_fits & threads_fit & nodes_fit & rows_fit
 }

@@ -11,10 +11,10 @@ use Rattle.cc_lines.specs.Lines.{Line, printed, lineOf, accessesBy, number}
 use Rattle.cc_lines.specs.Said.{sharedAccesses}
 use Rattle.machine.specs.Lines.{beside}
 use Rattle.cc_lines.proofs.Table.{as-tabled}
-use Rattle.dsm_synch.specs.Lines as dsmLines
-use Rattle.dsm_synch.specs.Said as dsmLinesSaid
-use Rattle.dsm_synch.proofs.Numbers as dsmNumbers
-use Rattle.dsm_synch.proofs.Table as dsmTable
+use Rattle.dsm_lines.specs.Lines as dsmLines
+use Rattle.dsm_lines.specs.Said as dsmLinesSaid
+use Rattle.dsm_lines.proofs.Numbers as dsmNumbers
+use Rattle.dsm_lines.proofs.Table as dsmTable
 use Rattle.state.specs.declared.State.{State}
 use Rattle.step.specs.Entry.{named, line, accesses}
 use Rattle.step.specs.DsmEntry as dsm

@@ -1,10 +1,13 @@
 pub mod Accessed
 pub mod Alike
 pub mod Computed
+pub mod DsmEachLine
 pub mod DsmSteps
 pub mod EachLine
+pub mod EitherLine
 pub mod Entering
 pub mod Judged
+pub mod Leaving
 pub mod Numbers
 pub mod Outcome
 pub mod Past

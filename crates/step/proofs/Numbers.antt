@@ -9,10 +9,10 @@ use Rattle.state.specs.Range.{lineInRange}
 use Rattle.step.specs.Entry.{oneIf}
 
 -- a thread's next line is idle or printed, and never line 1
-pub line-fits : (line : ℕ) → lineInRange line ≡ true → (line ≤ 21) × (line ≡ 1 → ⊥)
-line-fits zero e = (omega arith, λ q. omega arith)
-line-fits (suc zero) e = absurd (false≢true e)
-line-fits (suc (suc k)) e = let p = simp (eqb·suc-zero, and-eq-true-iff) at e in (leb-true _ _ (p .1), λ q. omega arith)
+pub line-fits : (last line : ℕ) → lineInRange last line ≡ true → (line ≤ last) × (line ≡ 1 → ⊥)
+line-fits last zero e = (omega arith, λ q. omega arith)
+line-fits last (suc zero) e = absurd (false≢true e)
+line-fits last (suc (suc k)) e = let p = simp (eqb·suc-zero, and-eq-true-iff) at e in (leb-true _ _ (p .1), λ q. omega arith)
 
 -- a test counts one at most
 pub at-most-one : (test : Bool) → oneIf test ≤ 1

@@ -10,8 +10,8 @@ use Rattle.machine.specs.declared.Node.{Node}
 use Rattle.machine.specs.declared.Event.{Event}
 use Rattle.machine.specs.declared.Effect.{Effect}
 use Rattle.machine.specs.Accesses.{Access}
-use Rattle.dsm_synch.specs.Lines.{Line, lineOf, empties, pointed, target, eventIn}
-use Rattle.dsm_synch.specs.Lines as lines
+use Rattle.dsm_lines.specs.Lines.{Line, lineOf, empties, pointed, target, eventIn}
+use Rattle.dsm_lines.specs.Lines as lines
 use Rattle.dsm_synch.specs.Effect.{meetsNull, takesOut, executed}
 use Rattle.copies.specs.Remote.{Referred, referredBy}
 use Rattle.state.specs.declared.Counts.{Counts}

@@ -8,6 +8,7 @@ use Rattle.object.specs.declared.Kind.the-variants.{Counter}
 use Rattle.object.specs.declared.Request.the-variants.{Add}
 use Rattle.object.specs.declared.Answer.the-variants.{Value}
 use Rattle.object.specs.Apply.{freshObject}
+use Rattle.machine.specs.declared.Method.the-variants.{DsmSynch}
 use Rattle.machine.specs.declared.Node.{Node}
 use Rattle.machine.specs.declared.Thread.{Thread}
 use Rattle.machine.specs.declared.ThreadId.{ThreadId}
@@ -54,6 +55,7 @@ pub record Figures : Type 0 where
 
 abbrev stateOf : Bool → Figures → State
 stateOf used f = record {
+  method = DsmSynch;
   n = 2;
   h = 1;
   kind = Counter;

@@ -103,6 +103,7 @@ wrapped c = record {
 -- the state after an entry of thread t, by whichever method: its thread, Tail and the node that it writes, the object, the copies and the counts
 abbrev pub stateWith : State → ThreadId → NodeId → Effect → Applied → List ℕ → Counts → State
 stateWith s t target effect applied copies counts = record {
+  method = s .method;
   n = s .n;
   h = s .h;
   kind = s .kind;

@@ -1,3 +1,4 @@
+pub mod ByMethod
 pub mod DsmEntry
 pub mod DsmSteps
 pub mod Entry

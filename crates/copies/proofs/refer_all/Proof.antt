@@ -1,35 +1,61 @@
--- `copies::refer_all` meets its contract: two accesses in turn, the second if there is one. Assumes nothing.
-use mathlib.Core.Path.{sym, _∙_}
-use Rattle.machine.specs.Accesses.{accessTo}
+-- `copies::refer_all` meets its contract: the first access, and the other two in turn unless the line stops. Assumes nothing.
 use borrow.Author.Needs.{needs}
-use Rattle.copies.proofs.References.{one-of-two, two-referred}
+use mathlib.Core.Path.{sym, _∙_}
+use mathlib.Core.List.{_++_}
+use Rattle.machine.specs.Accesses.{accessTo}
+use Rattle.copies.proofs.References.{two-referred, first-made, all-made}
 use Rattle.copies.proofs.refer_all.Statement.{statement}
 use Rattle.copies.proofs.refer_all.Tie as tie
 
 refer-requires : tie.Need-refer-requires
 refer-requires c κs = search needs
 
-is-none-requires : tie.Need-is-none-requires
-is-none-requires c κs = search needs
+only-first-requires : tie.Need-only-first-requires
+only-first-requires c κs = search needs
 
 returns : tie.Need-returns
 returns c =
     let tested = c .before in
     let first = tested .before in
     let a = first .before .before .args in
-    one-of-two (a .n) (a .thread .0) (a .copies .now) (accessTo (a .node) (a .row .first)) (a .node) (a .row .second) (sym (tested .is-none .ensures) ∙ c .if1 .taken) (first .refer .ensures)
+    let e = first .refer .ensures in
+    rw (first-made (a .row) (a .node) (a .behind) (sym (tested .only-first .ensures) ∙ c .if1 .taken)) (e .0, e .1 .0)
 
 refer-requires-2 : tie.Need-refer-requires-2
 refer-requires-2 c κs = search needs
 
+refer-requires-3 : tie.Need-refer-requires-3
+refer-requires-3 c κs = search needs
+
 add-result : tie.Need-add-result
 add-result c = search needs
 
+add-result-2 : tie.Need-add-result-2
+add-result-2 c = search needs
+
 returns-2 : tie.Need-returns-2
 returns-2 c =
-    let first = c .before .before .before .before in
+    let second = c .before .before in
+    let other = second .before .before in
+    let first = other .before .before in
     let a = first .before .before .args in
-    two-referred (a .n) (a .thread .0) (a .copies .now) (accessTo (a .node) (a .row .first)) (accessTo (a .node) (a .row .second)) (first .refer .ensures) (c .refer2 .ensures)
+    let to = accessTo (a .node) (a .behind) in
+    let e = first .refer .ensures in
+    let e′ = second .refer2 .ensures in
+    let e″ = c .refer3 .ensures in
+    rw (all-made (a .row) (a .node) (a .behind) (sym (other .before .only-first .ensures) ∙ other .if1 .left))
+    (two-referred (a .method) (a .n) (a .thread .0) (a .copies .now) (to (a .row .first)) (to (a .row .second) ++ to (a .row .third)) (e .0, e .1 .0)
+    (two-referred (a .method) (a .n) (a .thread .0) _ (to (a .row .second)) (to (a .row .third)) (e′ .0, e′ .1 .0) (e″ .0, e″ .1 .0)))
 
 pub refer-all-spec : {M : Type 1} → statement M
-refer-all-spec = tie.close (tie.spec refer-requires is-none-requires returns refer-requires-2 add-result returns-2)
+refer-all-spec =
+    tie.close
+    (tie.spec
+    refer-requires
+    only-first-requires
+    returns
+    refer-requires-2
+    refer-requires-3
+    add-result
+    add-result-2
+    returns-2)

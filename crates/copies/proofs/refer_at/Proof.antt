@@ -1,63 +1,43 @@
--- `copies::refer_at` meets its contract: a place past the array, or one in it. Assumes nothing.
+-- `copies::refer_at` meets its contract, method by method: by the copies, or by the owner. Assumes nothing.
 use borrow.Author.Needs.{needs}
-use lib.ListN.{set}
-use lib.Seq.{set-out}
-use mathlib.Core.Path.{sym, ap, _∙_}
-use Rattle.copies.proofs.References.{remote-outside}
 use Rattle.copies.proofs.refer_at.Statement.{statement}
 use Rattle.copies.proofs.refer_at.Tie as tie
 
+enum-told : tie.Need-enum-told
+enum-told c = search needs
+
+refer-copy-requires : tie.Need-refer-copy-requires
+refer-copy-requires c κs = search needs
+
+enum-told-2 : tie.Need-enum-told-2
+enum-told-2 c = search needs
+
+owns-at-requires : tie.Need-owns-at-requires
+owns-at-requires c κs = search needs
+
 returns : tie.Need-returns
-returns c =
-    let a = c .before .before .args in
-    (remote-outside (a .thread .0) (a .copies .now) (a .at) (c .if1 .taken), sym (set-out (a .copies .now) (a .at) _ (c .if1 .taken)))
-
-mul-word : tie.Need-mul-word
-mul-word c = search needs
-
-slice-read-word : tie.Need-slice-read-word
-slice-read-word c = search needs
-
-after-requires : tie.Need-after-requires
-after-requires c κs = search needs
-
-mul-copies : tie.Need-mul-copies
-mul-copies c = search needs
-
-slice-write-copies : tie.Need-slice-write-copies
-slice-write-copies c = search needs
-
-has-copy-requires : tie.Need-has-copy-requires
-has-copy-requires c κs = search needs
+returns c = (rw (c .before .before .enum-told2 .given .1, ← c .before .owns-at .ensures, c .if1 .taken), rw (c .before .before .enum-told2 .given .1))
 
 same-length : tie.Need-same-length
 same-length c = search needs
 
 returns-2 : tie.Need-returns-2
 returns-2 c =
-    let a = c .before .before .before .before .before .before .args in
-    (rw (sym (c .before .has-copy .ensures) ∙ c .if2 .taken), ap (set (a .copies .now) (a .at)) (c .before .before .after .ensures))
-
-same-length-2 : tie.Need-same-length-2
-same-length-2 c = search needs
+    let e = c .before .before .refer-copy .ensures in
+    rw (c .before .before .before .before .enum-told .given .1) e
 
 returns-3 : tie.Need-returns-3
-returns-3 c =
-    let a = c .before .before .before .before .before .before .args in
-    (rw (sym (c .before .has-copy .ensures) ∙ c .if2 .left), ap (set (a .copies .now) (a .at)) (c .before .before .after .ensures))
+returns-3 c = (rw (c .before .before .enum-told2 .given .1, ← c .before .owns-at .ensures, c .if1 .left), rw (c .before .before .enum-told2 .given .1))
 
 pub refer-at-spec : {M : Type 1} → statement M
 refer-at-spec =
     tie.close
     (tie.spec
+    enum-told
+    refer-copy-requires
+    enum-told-2
+    owns-at-requires
     returns
-    mul-word
-    slice-read-word
-    after-requires
-    mul-copies
-    slice-write-copies
-    has-copy-requires
     same-length
     returns-2
-    same-length-2
     returns-3)

@@ -10,10 +10,11 @@ use Rattle.state.proofs.threads_in_range.Statement.{statement}
 use Rattle.state.proofs.threads_in_range.Tie as tie
 
 abbrev Inv-loop : tie.InvT-loop
-Inv-loop n h threads count i₀ i = Left (everyWalk (threadInRange n h)) threads count (every (threadInRange n h) (take n threads)) i
+Inv-loop method last h n threads count i₀ i =
+    Left (everyWalk (threadInRange method last h)) threads count (every (threadInRange method last h) (take n threads)) i
 
 abbrev μ-loop : tie.MeasureT-loop
-μ-loop n h threads count i₀ i = count - i
+μ-loop method last h n threads count i₀ i = count - i
 
 loop-holds : tie.Need-loop-holds Inv-loop μ-loop
 loop-holds c = record { same = refl }

@@ -161,10 +161,6 @@ pointed th L28 = th .my
 abbrev pub target : Thread → Node → Line → NodeId
 target th x l = cond (eqb (number l) 26) (x .next) (pointed th l)
 
--- the node that line 7's Swap assigns to its call: of Tail's, which it gives, and myNode, which it puts in, the latter
-abbrev pub assigned : Thread → NodeId → NodeId
-assigned th tail = th .my
-
 -- what an entry of a line is, by what it finds: x, and whether line 23's CAS succeeds. Lines 10 and 25 spin where they stay; a turn begins with 13, and ends with 26
 -- or with a CAS that succeeds
 abbrev pub eventIn : Node → Bool → Line → Event
