@@ -7,7 +7,9 @@ use lib.ListN.{length, getD, take, drop, length-append, length-drop, drop-of-len
 use lib.Seq.{length-take-le, drop-drop}
 use Rattle.bench_writer.specs.Writer.{Given, total, interleaved, rawBytes, pasted}
 use Rattle.object.specs.Each.{sumOf}
+use Rattle.bench_file.specs.Layout.{headLength}
 use Rattle.bench_file.proofs.Each.{low-length}
+use Rattle.bench_file.proofs.Size.{head-length}
 use Rattle.bench_file.proofs.Reading.{cons-at}
 use Rattle.bench_writer.proofs.Rows.{total-more}
 use Rattle.bench_writer.proofs.Pasted.{pasted-nothing, pasted-twice, length-pasted}
@@ -81,6 +83,6 @@ module _ (counts requests : List ℕ) where
         let e : Rest i from ≡ [] = rw drop-of-length-le in
         (omega (arith, l .ahead, ap length e), sym (pasted-nothing buffer next) ∙ rw e at (l .left))
 
-pub raw-length : (g : Given) → length (rawBytes g) ≡ 11 + length (interleaved (g .counts) (g .requests)) + length (g .schedule)
+pub raw-length : (g : Given) → length (rawBytes g) ≡ headLength (g .version) + 2 + length (interleaved (g .counts) (g .requests)) + length (g .schedule)
 unfolding rawBytes
-raw-length g = simp length-append (omega (arith, low-length 2 (length (g .schedule))))
+raw-length g = rw (length-append, length-append, length-append, head-length) (omega (arith, low-length 2 (length (g .schedule))))
