@@ -16,12 +16,13 @@ use Rattle.state.specs.declared.Counts.{Counts}
 use Rattle.state.specs.declared.State.{State}
 use Rattle.state.specs.Range.{countsInRange}
 use Rattle.step.specs.Entry.{oneIf, moreOf, plus}
+use Rattle.step.specs.ByMethod.{enteredBy}
 use Rattle.step.proofs.Numbers.{at-most-one}
 use Rattle.history.specs.Entries.{Entry, remoteIn}
 use Rattle.history.specs.Copies.{remoteMarks}
 use Rattle.history.specs.Terms.{countsOf}
 use Rattle.history.proofs.Sums.{Few, counts-fit}
-use Rattle.claims.specs.Entries.{entryBy, enteredBy}
+use Rattle.claims.specs.Entries.{entryBy}
 use Rattle.claims.proofs.Accesses.{accesses-few}
 
 -- the remote accesses of an entry are as many as the state counts

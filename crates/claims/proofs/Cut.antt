@@ -17,8 +17,9 @@ use Rattle.machine.specs.declared.ThreadId.{ThreadId}
 use Rattle.state.specs.declared.State.{State}
 use Rattle.step.specs.Entry.{entered}
 use Rattle.step.specs.DsmEntry as dsm
+use Rattle.step.specs.ByMethod.{enteredBy}
 use Rattle.history.specs.Entries.{Entry, threadId}
-use Rattle.claims.specs.Entries.{entryBy, enteredBy, startBy, entriesFrom, stateAfter, meetsNoNull, entriesBy, cut}
+use Rattle.claims.specs.Entries.{entryBy, startBy, entriesFrom, stateAfter, meetsNoNull, entriesBy, cut}
 
 entries-cut : (m : Method) (s : State) (j : ℕ) (schedule : List ℕ) → entriesFrom m s (take j schedule) ≡ take j (entriesFrom m s schedule)
 unfolding entriesFrom

@@ -17,8 +17,9 @@ use Rattle.state.specs.declared.Counts.{Counts}
 use Rattle.state.specs.declared.State.{State}
 use Rattle.step.specs.Entry.{stateWith, named, request, target, effect, applied, references, countsAfter}
 use Rattle.step.specs.DsmEntry as dsm
+use Rattle.step.specs.ByMethod.{enteredBy}
 use Rattle.history.specs.Entries.{Entry}
-use Rattle.claims.specs.Entries.{entryBy, enteredBy, startBy, stateAfter, entriesBy}
+use Rattle.claims.specs.Entries.{entryBy, startBy, stateAfter, entriesBy}
 use Rattle.claims.specs.Claims.{askedBy}
 use Rattle.claims.proofs.Counted.{Counted, counted-next}
 use Rattle.claims.proofs.Cut.{AllOk, after-cut}

@@ -22,7 +22,8 @@ use Rattle.dsm_synch.specs.Effect.{assigned}
 use Rattle.state.specs.declared.Slot.{Slot}
 use Rattle.state.specs.declared.State.{State}
 use Rattle.state.specs.Fresh.{freshStateBy}
-use Rattle.step.specs.Entry.{zeroSlot, named, event, target, node, applied, accesses, entered}
+use Rattle.step.specs.Entry.{zeroSlot, named, event, target, node, applied, accesses}
+use Rattle.step.specs.ByMethod.{enteredBy}
 use Rattle.step.specs.DsmEntry as dsm
 use Rattle.history.specs.Entries.{Entry, threadId}
 use Rattle.history.specs.Copies.{remoteMarks}
@@ -54,14 +55,10 @@ dsmEntryOf s t =
     entryWith t (dsm.event s t) (dsm.accesses s t) (remoteMarks DsmSynch (s .n) (t .0) (s .copies) (dsm.accesses s t)) (assigned (named s t) (s .tail)) (s .tail) (dsm.pointsTo s t) (dsm.node s t)
     (dsm.applied s t .answer)
 
--- and by the method, with the state after it
+-- and by the method
 abbrev pub entryBy : Method → State → ThreadId → Entry
 entryBy CcSynch s t = entryOf s t
 entryBy DsmSynch s t = dsmEntryOf s t
-
-abbrev pub enteredBy : Method → State → ThreadId → State
-enteredBy CcSynch s t = entered s t
-enteredBy DsmSynch s t = dsm.entered s t
 
 -- a list filled up to a length
 abbrev pub filled : {A : Type 0} → ℕ → A → List A → List A
