@@ -36,7 +36,7 @@ use Rattle.step.specs.Entry.{zeroNode, zeroSlot, appliedAt, moreOf, plus
 use Rattle.step.specs.ByMethod.{pointsToBy, nodeBy, behindBy, writtenBy, eventBy, appliedBy, effectBy, accessesBy, referencesBy, countsAfterBy, enteredBy, outBy}
 use Rattle.step.specs.Step.{refused, outcomeBy, stepOf}
 use Rattle.step.proofs.Outcome.{thread-fits, begun-few, goes-through-exactly}
-use Rattle.step.proofs.Rows.{row-points, row-accesses, row-writes, row-event, HasNodes, goes-ahead, goes-through, refused-out}
+use Rattle.step.proofs.Rows.{row-points, row-accesses, row-writes, row-event, HasNodes, goes-through, refused-out}
 
 -- counts that fit do not wrap
 pub fits-wrapped : (c : Counts) → countsInRange c ≡ true → wrapped c ≡ c
@@ -131,7 +131,7 @@ module _ (m : Method) (s : State) (t : ThreadId) (shape : Shaped s) (fits : inRa
     accesses-are : accessesOf r p (x .next) ≡ accessesBy m s t
     accesses-are = rw (is-row, at-points, is-node) (row-accesses m (named s t) (nodeBy m s t) (line s t))
 
-    remote-is : remote ≡ referencesBy m s t .remote
+    pub remote-is : remote ≡ referencesBy m s t .remote
     remote-is = rw accesses-are at (called .remote-of)
 
     copies-are : copies ≡ referencesBy m s t .copies
@@ -143,22 +143,22 @@ module _ (m : Method) (s : State) (t : ThreadId) (shape : Shaped s) (fits : inRa
     pub sums : plus (s .counts) more ≡ countsAfterBy m s t
     sums = rw (called .more-of, remote-is, is-event) refl
 
+    -- what the refusal of its line tells
+    pub line-out : (e .refusal ≡ 0 → ⊥) → outBy m s t ≡ true
+    line-out h = refused-out (t .0) (named s t) (nodeBy m s t) (behindBy m s t) (s .tail) (s .h) (request s t) (appliedBy m s t .answer) m has (rw is-answer at h)
+
+    pub line-through : e .refusal ≡ 0 → (outBy m s t ≡ false) × (e ≡ effectBy m s t)
+    line-through h = let g = through (rw is-answer at h) in (g .0, is-answer ∙ g .1)
+
     -- the line is refused
     pub line-refused : (e .refusal ≡ 0 → ⊥) → refused 14 s ≡ outcomeBy m s t
-    line-refused h =
-        sym (by-outcome
-        (refused-out (t .0) (named s t) (nodeBy m s t) (behindBy m s t) (s .tail) (s .h) (request s t) (appliedBy m s t .answer) m has (rw is-answer at h)) refl)
+    line-refused h = sym (by-outcome (line-out h) refl)
 
     -- a count would pass 32 bits
     pub counts-refused : e .refusal ≡ 0 → countsInRange (plus (s .counts) more) ≡ false → refused 14 s ≡ outcomeBy m s t
     counts-refused h f = sym (by-outcome (through (rw is-answer at h) .0) (ap countsInRange (sym sums) ∙ f))
 
-    -- where the line is not 14 for a cause of its own, what the calls answered makes the state after the entry
-    pub line-done : outBy m s t ≡ false → e ≡ effectBy m s t
-    line-done stay =
-        is-answer
-        ∙ goes-ahead (t .0) (named s t) (nodeBy m s t) (behindBy m s t) (s .tail) (s .h) (request s t) (appliedBy m s t .answer) m has stay
-
+    -- what the calls answered makes the state after the entry
     pub entered-by : {nodes : List Node} {counts : Counts} → e ≡ effectBy m s t → nodes ≡ set (s .nodes) (w .0) (e .node) → counts ≡ plus (s .counts) more
         → made s t nodes (ob .object) e copies counts ≡ enteredBy m s t
     entered-by done en ep = rw (en, ep, sums, done, copies-are, is-written, is-applied) refl

@@ -125,7 +125,7 @@ pub fn plus(counts: Counts, more: Counts) -> Counts
 }
 
 // What is read past the last node, where myNode or the node behind is null: a line makes nothing of it.
-fn zero_node() -> Node
+pub fn zero_node() -> Node
     ensures { λ r. ⌜ r ≡ zeroNode ⌝ }
 {
     Node {
