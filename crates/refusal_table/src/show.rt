@@ -113,8 +113,8 @@ fn held(out: &[u8]) {
     number(sums);
 }
 
-// Gives the writer a version, object, n, h, capacity and method, lends it the first bytes of a buffer that holds 0xAA only, and shows its refusal, the length written and what the whole
-// buffer holds then.
+// Gives the writer a version, then object, n, h, capacity and method, and lends it the first bytes of a buffer that holds 0xAA only.
+// Shows its refusal, the length written and what the whole buffer holds then.
 pub(crate) fn written(
     version: u16,
     numbers: [u8; 5],
