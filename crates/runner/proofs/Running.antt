@@ -135,6 +135,9 @@ module _ (m : Method) (f : Fields) (bytes : List ℕ) (fits : InRange f) where
     pub waited-few : {node : NodeId} → named s t .line ≡ spinLine m → node ≡ spinNode m (named s t .cur) (named s t .my) → node .0 < mostNodes
     waited-few stands e = rw e (waited-below f fits s (x .past) t below m (x .standing) stands)
 
+    pub nodes-long : length (s .nodes) ≡ mostNodes
+    nodes-long = sound m f s (x .past) (x .standing) .shape .nodes
+
     -- the entry's line is 14 exactly if it meets null, and then so is the run
     pub only-null : outBy m s t ≡ nullMetBy m s t
     only-null = null-alone f fits s (x .past) t below m (x .standing)
@@ -230,11 +233,11 @@ module _ (m : Method) (f : Fields) (bytes : List ℕ) (fits : InRange f) where
           pub is-served : {their : ℕ} {applies : Bool} → applies ≡ sameEvent ev Applies → their ≡ cond applies (getD given (p .0) 0) call → their ≡ served m s t given
           is-served q z = rw (q, is-event m s t shape range below called, at-points m s t shape range below called, is-call) at z
 
-        running-booked : {call their : ℕ} {order′ given′ turns′ : List ℕ} {counts : Counts} {d mine theirs : Kept} {applies : Bool} {a : NodeId}
-            → counts ≡ wrapped (plus (s .counts) more) → Booked d ev applies p a (ob .answer) e remote call their order′ given′ turns′ mine theirs
-            → Running m f bytes (i + 1) (made s t w (ob .object) e copies counts) (set (set kept call mine) their theirs) order′ given′ turns′
-        running-booked {d = d} {mine = mine} {theirs = theirs} {a = a} sum b =
-            let after = entered-by m s t shape range below called is-effect (sum ∙ fits-wrapped _ fits-counts) in
+        running-booked : {call their : ℕ} {order′ given′ turns′ : List ℕ} {nodes : List Node} {counts : Counts} {d mine theirs : Kept} {applies : Bool} {a : NodeId}
+            → nodes ≡ set (s .nodes) (w .0) (e .node) → counts ≡ wrapped (plus (s .counts) more) → Booked d ev applies p a (ob .answer) e remote call their order′ given′ turns′ mine theirs
+            → Running m f bytes (i + 1) (made s t nodes (ob .object) e copies counts) (set (set kept call mine) their theirs) order′ given′ turns′
+        running-booked {d = d} {mine = mine} {theirs = theirs} {a = a} stored sum b =
+            let after = entered-by m s t shape range below called is-effect stored (sum ∙ fits-wrapped _ fits-counts) in
             let told = is-event m s t shape range below called in
             let at = is-call (b .of-call) in
             let to = is-served (b .of-call) (b .of-applies) (b .of-served) in
@@ -357,6 +360,21 @@ module _ {bytes : List ℕ} {start : State} {method : Method} {rows : List Row} 
     inside = omega arith;
     running = running;
   }
+
+  module _ (inside : i < length bytes) {k c remote : ℕ} {r : Row} {p w : NodeId} {xn yn : Node} {ev : Event} {ob : Applied} {e : Effect} {copies : List ℕ} {more : Counts}
+      (called : Called method s (threadId (getD bytes i 0)) k r p xn yn ev c ob e remote copies w more) where
+    -- one more entry
+    pub looping-next : {call their : ℕ} {order′ given′ turns′ : List ℕ} {nodes : List Node} {counts : Counts} {d mine theirs : Kept} {applies : Bool} {a : NodeId} {J : State} {answer : Answer}
+        → e .refusal ≡ 0 → Serves s J answer ob → nodes ≡ set (s .nodes) (w .0) (e .node) → counts ≡ wrapped (plus (s .counts) more)
+        → Booked method (x .file) bytes (x .fits) (x .running) inside d ev applies p a answer e remote call their order′ given′ turns′ mine theirs
+        → Looping bytes start method rows spin n h kind capacity (i + 1) (made J (threadId (getD bytes i 0)) nodes (J .object) e copies counts) (set (set kept call mine) their theirs) order′ given′ turns′
+    looping-next done serves stored sum b =
+        rw (serves .state)
+        (looping-on refl refl refl refl inside (running-booked method (x .file) bytes (x .fits) (x .running) inside called done stored sum (rw (serves .answers) at b)))
+
+    -- or the run is refused
+    pub looping-null : (e .refusal ≡ 0 → ⊥) → unplayed 14 ≡ playedFrom start bytes
+    looping-null refused = rw (x .entries, x .fresh) (refused-run method (x .file) bytes (x .fits) (x .running) inside called refused)
 
   -- the end of the loop
   pub looping-ends : length bytes ≤ i → _≡_ {A = Played} (record { refusal = 0; counts = s .counts; kept = kept; order = order }) (playedFrom start bytes)

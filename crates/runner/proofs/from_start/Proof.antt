@@ -2,41 +2,47 @@
 use Prim.Native.Nat.{ℕ, _+_, _-_, _^_, _<_}
 use native.Mathlib.Omega.{arith}
 use mathlib.Core.Path.{_≡_, refl, sym, ap, ap₂, _∙_}
-use mathlib.Core.Bool.{true}
+use mathlib.Core.Bool.{cond}
 use mathlib.Core.Logic.{⊎-elim}
-use mathlib.Core.List.{List, _∷_}
-use lib.ListN.{length, getD, replicate, List·getD-map}
+use mathlib.Core.List.{List}
+use lib.ListN.{length, getD, set, replicate}
+use lib.Seq.{set-out}
 use borrow.Author.Needs.{needs}
 use Rattle.object.specs.declared.Answer.{Answer}
 use Rattle.object.specs.declared.Applied.{Applied}
 use Rattle.object.specs.declared.Kind.{Kind}
-use Rattle.machine.specs.declared.Announced.{Announced}
 use Rattle.machine.specs.declared.Effect.{Effect}
+use Rattle.machine.specs.declared.Method.{Method}
+use Rattle.machine.specs.declared.Method.the-variants.{CcSynch}
+use Rattle.machine.specs.declared.NodeId.{NodeId}
+use Rattle.machine.specs.declared.Node.{Node}
 use Rattle.machine.specs.declared.Row.{Row}
 use Rattle.machine.specs.declared.ThreadId.{ThreadId}
 use Rattle.machine.specs.declared.Event.the-variants.{Blank}
-use Rattle.machine.specs.Accesses.{accessesOf}
+use Rattle.machine.specs.Accesses.{accessesOf, writtenOf}
 use Rattle.machine.specs.Events.{sameEvent}
 use Rattle.machine.specs.Sizes.{mostCalls, mostNodes}
-use Rattle.cc_lines.specs.Lines.{L0, L9, printed, lineOf, rowOf, number}
-use Rattle.cc_synch.specs.Effect.{effectOf}
-use Rattle.copies.specs.Remote.{Referred, referred}
+use Rattle.methods.specs.Methods.{rowBy, spinLine}
+use Rattle.methods.specs.Methods as methods
+use Rattle.methods.proofs.Rows.{allRows, row-at}
+use Rattle.copies.specs.Remote.{Referred, referredBy}
+use Rattle.state.specs.declared.Counts.{Counts}
 use Rattle.state.specs.declared.State.{State}
-use Rattle.step.specs.Entry.{zeroNode, zeroSlot, named, target, servedBy, appliedAt}
-use Rattle.step.specs.Entry.{row as row-now}
-use Rattle.step.proofs.Entering.{is-target, Called}
+use Rattle.step.specs.Entry.{zeroNode, zeroSlot, moreOf, named, servedBy, appliedAt}
+use Rattle.step.proofs.Entering.{Called}
 use Rattle.history.specs.Entries.{threadId}
-use Rattle.runner.proofs.Running.{Looping, number-few, thread-few, line-few, node-few, slot-few, call-below, their-below, is-call, is-served, Serves, serves-one, serves-none, looping-start, looping-next, looping-ends}
-use Rattle.runner.proofs.Quiet.{Quiet, blank-quiet, at-cur, spinning, spinMore, spin-quiet, counts-fit, looping-quiet}
+use Rattle.history.proofs.Places.{getD-any}
+use Rattle.runner.proofs.Running.{Looping, number-few, thread-few, line-last, line-few, slot-few, waited-few, nodes-long, call-below, their-below, fine, is-call, is-served, Serves, serves-one, serves-none, read-there, looping-start, looping-next, looping-null, looping-ends}
+use Rattle.runner.proofs.Quiet.{Quiet, blankMore, blank-quiet, spinMore, spin-quiet, counts-fit, looping-quiet}
 use Rattle.runner.proofs.from_start.Statement.{statement}
 use Rattle.runner.proofs.from_start.Tie as tie
 
 abbrev Inv-loop : tie.InvT-loop
-Inv-loop schedule rows n h kind capacity state₀ kept₀ order₀ given₀ turns₀ i₀ state kept order given turns i =
-    Looping schedule state₀ rows n h kind capacity i state kept order given turns
+Inv-loop schedule method rows spin-line n h kind capacity state₀ kept₀ order₀ given₀ turns₀ i₀ state kept order given turns i =
+    Looping schedule state₀ method rows spin-line n h kind capacity i state kept order given turns
 
 abbrev μ-loop : tie.MeasureT-loop
-μ-loop schedule rows n h kind capacity state₀ kept₀ order₀ given₀ turns₀ i₀ state kept order given turns i =
+μ-loop schedule method rows spin-line n h kind capacity state₀ kept₀ order₀ given₀ turns₀ i₀ state kept order given turns i =
     length schedule - i
 
 -- the entry that the loop is at, from each of its calls
@@ -50,7 +56,7 @@ abbrev waited : tie.Then2 Inv-loop μ-loop → tie.After-place Inv-loop μ-loop
 waited c = c .before .before .before .before
 
 abbrev entry-spun : tie.Then2 Inv-loop μ-loop → tie.In-loop Inv-loop μ-loop
-entry-spun c = stood (waited c .before)
+entry-spun c = stood (waited c .before .before)
 
 abbrev entry : tie.After-line-run Inv-loop μ-loop → tie.In-loop Inv-loop μ-loop
 entry c = looked (c .before .before .before .before)
@@ -59,182 +65,286 @@ abbrev rowed : tie.After-same-event Inv-loop μ-loop → tie.After-line-run Inv-
 rowed c = c .before .before
 
 abbrev lined : tie.After-pointed Inv-loop μ-loop → tie.After-line-run Inv-loop μ-loop
-lined c = rowed (c .before .before)
+lined c = rowed (c .before .before .before .before)
 
-abbrev told : tie.After-event-in Inv-loop μ-loop → tie.After-pointed Inv-loop μ-loop
-told c = c .before .before .before
+abbrev found : tie.Joined4 Inv-loop μ-loop → tie.After-pointed Inv-loop μ-loop
+found c = c .before .before .before
+
+abbrev told : tie.After-event-in Inv-loop μ-loop → tie.Joined4 Inv-loop μ-loop
+told c = c .before .before .before .before
 
 abbrev eventful : tie.After-call-place Inv-loop μ-loop → tie.After-event-in Inv-loop μ-loop
 eventful c = c .before .before
 
 abbrev pointed : tie.After-call-place Inv-loop μ-loop → tie.After-pointed Inv-loop μ-loop
-pointed c = told (eventful c)
+pointed c = found (told (eventful c))
 
-abbrev placed : tie.Joined4 Inv-loop μ-loop → tie.After-call-place Inv-loop μ-loop
-placed c = c .before .before .before .before
+abbrev placed : tie.Joined5 Inv-loop μ-loop → tie.After-call-place Inv-loop μ-loop
+placed c = c .before .before .before
 
-abbrev line-of : tie.After-run-line Inv-loop μ-loop → tie.After-line-run Inv-loop μ-loop
-line-of c = lined (pointed (placed (c .before)))
+abbrev applies-of : tie.Joined6 Inv-loop μ-loop → tie.Joined5 Inv-loop μ-loop
+applies-of c = c .before .before .before
 
-abbrev joined : tie.After-more-of Inv-loop μ-loop → tie.Joined4 Inv-loop μ-loop
-joined c = c .before .before .before .before .before
+abbrev ran : tie.After-more-of Inv-loop μ-loop → tie.After-run-line Inv-loop μ-loop
+ran c = c .before .before .before .before .before .before
 
-abbrev counted : tie.After-call-place2 Inv-loop μ-loop → tie.After-more-of Inv-loop μ-loop
-counted c = c .before .before .before .before .before
+abbrev joined : tie.After-run-line Inv-loop μ-loop → tie.Joined5 Inv-loop μ-loop
+joined c = applies-of (c .before)
 
-abbrev node-of : tie.After-more-of Inv-loop μ-loop → tie.After-pointed Inv-loop μ-loop
+abbrev node-of : tie.After-run-line Inv-loop μ-loop → tie.After-pointed Inv-loop μ-loop
 node-of c = pointed (placed (joined c))
 
-abbrev entry-of : tie.After-more-of Inv-loop μ-loop → tie.In-loop Inv-loop μ-loop
+abbrev entry-of : tie.After-run-line Inv-loop μ-loop → tie.In-loop Inv-loop μ-loop
 entry-of c = entry (lined (node-of c))
+
+abbrev writes : tie.After-plus Inv-loop μ-loop → tie.After-written Inv-loop μ-loop
+writes c = c .before .before .before .before .before
+
+abbrev counted : tie.After-call-place2 Inv-loop μ-loop → tie.After-written Inv-loop μ-loop
+counted c = writes (c .before .before)
 
 -- its state and its thread, the row of its line, and what it applies
 abbrev state : tie.In-loop Inv-loop μ-loop → State
 state c = c .before .loop .state
 
 abbrev thread : tie.In-loop Inv-loop μ-loop → ThreadId
-thread c = threadId (getD (c .before .before .before .before .before .args .schedule .now) (c .before .loop .i) 0)
+thread c = threadId (getD (c .before .before .before .before .before .before .args .schedule .now) (c .before .loop .i) 0)
+
+abbrev method : tie.In-loop Inv-loop μ-loop → Method
+method c = c .before .before .before .before .before .before .args .start .method
 
 abbrev row : tie.After-line-run Inv-loop μ-loop → Row
-row c = getD (entry c .before .before .before .all-rows .result) (c .line-run .result) (rowOf L0)
+row c = getD (entry c .before .before .before .before .all-rows .result) (c .line-run .result) (rowBy CcSynch 0)
 
-abbrev req : tie.After-pointed Inv-loop μ-loop → Announced
-req c = getD (state (entry (lined c)) .nodes) (c .pointed .result .0) zeroNode .req
+abbrev node : tie.Joined4 Inv-loop μ-loop → Node
+node c = c .if4 .node
 
 abbrev applied : tie.After-event-in Inv-loop μ-loop → Applied
-applied c = let s = state (entry (lined (told c))) in appliedAt (c .event-in .result) (s .kind) (s .capacity) (s .object) (req (told c))
+applied c =
+    let s = state (entry (lined (found (told c)))) in
+    appliedAt (c .event-in .result) (s .kind) (s .capacity) (s .object) (node (told c) .req)
 
 -- what the entry reads lies within the arrays
 thread-below : (c : tie.In-loop Inv-loop μ-loop) → thread c .0 < 16
-thread-below c = let now = c .before .loop .inv in thread-few _ _ (now .fits) (now .running) (c .loop-test .taken)
+thread-below c = let now = c .before .loop .inv in thread-few _ _ _ (now .fits) (now .running) (c .loop-test .taken)
 
-line-below : (c : tie.After-line-run Inv-loop μ-loop) → c .line-run .result < 22
+line-below : (c : tie.After-line-run Inv-loop μ-loop) → c .line-run .result < 29
 line-below c =
     let at = entry c in
     let now = at .before .loop .inv in
-    line-few _ _ (now .fits) (now .running) (at .loop-test .taken) (c .line-run .ensures)
+    line-few _ _ _ (now .fits) (now .running) (at .loop-test .taken) (c .line-run .ensures)
 
-row-of : (c : tie.After-line-run Inv-loop μ-loop) → row c ≡ rowOf (lineOf (c .line-run .result))
+row-of : (c : tie.After-line-run Inv-loop μ-loop) → row c ≡ rowBy (method (entry c)) (c .line-run .result)
 row-of c =
-    ap (λ (l : List Row). getD l (c .line-run .result) (rowOf L0)) (entry c .before .loop .inv .table)
-    ∙ List·getD-map rowOf (L0 ∷ printed) (c .line-run .result) L0
-
--- the row and its node are those of the step
-is-row : (c : tie.After-line-run Inv-loop μ-loop) → row c ≡ row-now (state (entry c)) (thread (entry c))
-is-row c = row-of c ∙ ap (λ (k : ℕ). rowOf (lineOf k)) (c .line-run .ensures)
-
-is-node : (c : tie.After-pointed Inv-loop μ-loop) → let at = entry (lined c) in c .pointed .result ≡ target (state at) (thread at)
-is-node c = let at = entry (lined c) in is-target (state at) (thread at) (lined c .line-run .ensures) (row-of (lined c)) (c .pointed .ensures)
-
-node-below : (c : tie.After-pointed Inv-loop μ-loop) → c .pointed .result .0 < mostNodes
-node-below c =
-    let at = entry (lined c) in
-    let now = at .before .loop .inv in
-    node-few _ _ (now .fits) (now .running) (at .loop-test .taken) (is-node c)
+    let m = method (entry c) in
+    let k = c .line-run .result in
+    ap (λ (l : List Row). getD l k (rowBy CcSynch 0)) (entry c .before .loop .inv .table)
+    ∙ getD-any (allRows m) k (rowBy CcSynch 0) (rowBy m 0) (line-below c) ∙ row-at m k (line-below c)
 
 -- the place of the next entry is a number of 64 bits
 i-fits : (at : tie.In-loop Inv-loop μ-loop) → at .before .loop .i + 1 < 2 ^ 64
-i-fits at = omega (arith, at .loop-test .taken, at .before .before .before .before .before .good)
+i-fits at = omega (arith, at .loop-test .taken, at .before .before .before .before .before .before .good)
 
 -- what the tests for a spin and for a blank said
-stands : (c : tie.Then1 Inv-loop μ-loop) → let at = stood c in named (state at) (thread at) .line ≡ number L9
-stands c = c .if1 .taken
+stands : (c : tie.Then1 Inv-loop μ-loop) → let at = stood c in named (state at) (thread at) .line ≡ spinLine (method at)
+stands c = c .if1 .taken ∙ stood c .before .loop .inv .waits
 
-cur-below : (c : tie.Then1 Inv-loop μ-loop) → let at = stood c in named (state at) (thread at) .cur .0 < mostNodes
-cur-below c =
-    let at = stood c in
+waited-below : (c : tie.After-spin-node Inv-loop μ-loop) → c .spin-node .result .0 < mostNodes
+waited-below c =
+    let at = stood (c .before) in
     let now = at .before .loop .inv in
-    node-few _ _ (now .fits) (now .running) (at .loop-test .taken) (at-cur (state at) (thread at) (stands c))
+    waited-few _ _ _ (now .fits) (now .running) (at .loop-test .taken) (stands (c .before)) (c .spin-node .ensures)
 
-spun : (c : tie.Then2 Inv-loop μ-loop) → let s = state (entry-spun c) in Quiet s (thread (entry-spun c)) (spinMore (s .counts))
+spun : (c : tie.Then2 Inv-loop μ-loop) → let at = entry-spun c in Quiet (method at) (state at) (thread at) (spinMore (state at .counts))
 spun c =
-    let copy = c .before .has-copy in
-    spin-quiet _ _ (spinning _ _ (copy .result) (stands (waited c .before)) (waited c .place .ensures) (copy .ensures) (c .if2 .taken))
+    let hand = c .before .at-hand in
+    let at = waited c .before in
+    spin-quiet _ _ _ (hand .result) (stands (at .before)) (at .spin-node .ensures) (waited c .place .ensures) (hand .ensures) (c .if2 .taken)
 
-blank : (c : tie.Then3 Inv-loop μ-loop) → let at = entry (rowed (c .before)) in sameEvent (row-now (state at) (thread at) .event) Blank ≡ true
-blank c = ap (λ (r : Row). sameEvent (r .event) Blank) (sym (is-row (rowed (c .before)))) ∙ sym (c .before .same-event .ensures) ∙ c .if3 .taken
+blank : (c : tie.Then3 Inv-loop μ-loop) → let at = entry (rowed (c .before)) in Quiet (method at) (state at) (thread at) (blankMore (state at .counts))
+blank c =
+    let line = rowed (c .before) in
+    let at = entry line in
+    let now = at .before .loop .inv in
+    let is : rowBy (method at) (line .line-run .result) ≡ row line = sym (row-of line) in
+    blank-quiet _ _ _ (line-last _ _ _ (now .fits) (now .running) (at .loop-test .taken))
+    (ap (λ (k : ℕ). sameEvent (rowBy (method at) k .event) Blank) (sym (line .line-run .ensures)) ∙ ap (λ (r : Row). sameEvent (r .event) Blank) is
+    ∙ sym (c .before .same-event .ensures) ∙ c .if3 .taken)
+
+-- the node that the line points to, and the one behind it
+long : (at : tie.In-loop Inv-loop μ-loop) → length (state at .nodes) ≡ mostNodes
+long at = let now = at .before .loop .inv in nodes-long _ _ _ (now .fits) (now .running) (at .loop-test .taken)
+
+node-is : (c : tie.Joined4 Inv-loop μ-loop) → node c ≡ getD (state (entry (lined (found c))) .nodes) (found c .pointed .result .0) zeroNode
+node-is c =
+    ⊎-elim (λ w. w .2)
+    (λ w. read-there (state (entry (lined (found c))) .nodes) (w .1 ∙ c .before .zero-node .ensures) (omega (arith, long (entry (lined (found c))), w .0 .left)))
+    (c .if4 .came)
 
 place-below : (c : tie.After-call-place Inv-loop μ-loop) → c .call-place .result < mostCalls
 place-below c =
     let at = entry (lined (pointed c)) in
     let now = at .before .loop .inv in
-    slot-few _ _ (now .fits) (now .running) (at .loop-test .taken) (c .call-place .ensures)
+    slot-few _ _ _ (now .fits) (now .running) (at .loop-test .taken) (c .call-place .ensures)
 
-serves : (c : tie.Joined4 Inv-loop μ-loop)
-    → Serves (state (entry (lined (pointed (placed c))))) (c .if4 .state) (c .if4 .answer) (applied (eventful (placed c)))
+serves : (c : tie.Joined5 Inv-loop μ-loop)
+    → Serves (state (entry (lined (pointed (placed c))))) (c .if5 .state) (c .if5 .answer) (applied (eventful (placed c)))
 serves c =
-    let at = pointed (placed c) in
-    let s = state (entry (lined at)) in
-    let now = entry (lined at) .before .loop .inv in
+    let at = told (eventful (placed c)) in
+    let s = state (entry (lined (found at))) in
+    let now = entry (lined (found at)) .before .loop .inv in
     let event = eventful (placed c) .event-in .result in
     let applies = placed c .before .same-event2 in
-    let same = ap₂ (λ (kind : Kind) (capacity : ℕ). servedBy kind capacity (s .object) (req at)) (now .object) (now .room) in
-    ⊎-elim (λ w. serves-one s (c .if4 .state) (c .if4 .answer) event (req at) (sym (applies .ensures) ∙ w .0 .taken) (w .2 .ensures ∙ same) (w .5) (w .4))
-    (λ w. serves-none s (c .if4 .state) (c .if4 .answer) event (req at) (sym (applies .ensures) ∙ w .0 .left) (w .2) (w .1))
-    (c .if4 .came)
+    let same = ap₂ (λ (kind : Kind) (capacity : ℕ). servedBy kind capacity (s .object) (node at .req)) (now .object) (now .room) in
+    ⊎-elim (λ w. serves-one s (c .if5 .state) (c .if5 .answer) event (node at .req) (sym (applies .ensures) ∙ w .0 .taken) (w .2 .ensures ∙ same) (w .5) (w .4))
+    (λ w. serves-none s (c .if5 .state) (c .if5 .answer) event (node at .req) (sym (applies .ensures) ∙ w .0 .left) (w .2) (w .1))
+    (c .if5 .came)
 
--- what the calls for the entry answered
-called : (c : tie.After-more-of Inv-loop μ-loop)
+-- an entry that applies leaves the nodes
+nodes-same : (c : tie.Joined5 Inv-loop μ-loop) → c .if5 .state .nodes ≡ state (entry (lined (pointed (placed c)))) .nodes
+nodes-same c = ap (λ (s : State). s .nodes) (serves c .state)
+
+behind-is : (c : tie.Joined6 Inv-loop μ-loop)
+    → let at = applies-of c in c .if6 .behind ≡ getD (state (entry (lined (pointed (placed at)))) .nodes) (node (told (eventful (placed at))) .next .0) zeroNode
+behind-is c =
+    let at = applies-of c in
+    let same = nodes-same at in
+    ⊎-elim (λ w. w .2 ∙ ap (λ (l : List Node). getD l (node (told (eventful (placed at))) .next .0) zeroNode) same)
+    (λ w. read-there (state (entry (lined (pointed (placed at)))) .nodes) (w .1 ∙ c .before .zero-node2 .ensures) (omega (arith, long (entry (lined (pointed (placed at)))), w .0 .left)))
+    (c .if6 .came)
+
+-- what the calls up to the line answered, with its remote references, the node that it writes and what it adds to the counts
+called-by : (c : tie.After-run-line Inv-loop μ-loop) {remote : ℕ} {copies : List ℕ} {w : NodeId} {more : Counts}
     → let at = node-of c in
-    Called (state (entry-of c)) (thread (entry-of c)) (lined at .line-run .result) (row (lined at)) (at .pointed .result) (eventful (placed (joined c)) .event-in .result) (placed (joined c) .call-place .result) (applied (eventful (placed (joined c)))) (c .before .before .before .before .run-line .result) (c .before .refer-all .result) (c .before .refer-all .last .0) (c .more-of .result)
-called c =
-    let at = node-of c in
-    let m = at .pointed .result in
+    let s = state (entry-of c) in
+    let t = thread (entry-of c) in
+    let m = method (entry-of c) in
+    let x = node (told (eventful (placed (joined c)))) in
+    let references = referredBy m (s .n) (t .0) (s .copies) (accessesOf (row (lined at)) (at .pointed .result) (x .next)) in
+    remote ≡ references .remote → copies ≡ references .copies → w ≡ writtenOf (row (lined at)) (at .pointed .result) (x .next)
+    → more ≡ moreOf (eventful (placed (joined c)) .event-in .result) remote
+    → Called m s t (lined at .line-run .result) (row (lined at)) (at .pointed .result) x (c .before .if6 .behind) (eventful (placed (joined c)) .event-in .result) (placed (joined c) .call-place .result) (applied (eventful (placed (joined c)))) (c .run-line .result) remote copies w more
+called-by c remote copies written more =
     let place = placed (joined c) .call-place in
     let s = state (entry-of c) in
     let t = thread (entry-of c) in
     let now = entry-of c .before .loop .inv in
-    let served = serves (joined c) in
-    let refer = c .before .refer-all in
-    let effect : ℕ → Answer → Effect = λ h answer. effectOf (named s t) (getD (s .nodes) (m .0) zeroNode) (s .tail) h (getD (s .requests) (place .result) zeroSlot .request) answer in
-    let references = ap₂ (λ (n : ℕ) (s : State). referred n (t .0) (s .copies) (accessesOf (row (lined at)) m)) (now .threads) (served .state) in
+    let x = node (told (eventful (placed (joined c)))) in
+    let effect : ℕ → Answer → Effect = λ h answer. methods.effectBy (method (entry-of c)) (t .0) (named s t) x (c .before .if6 .behind) (s .tail) h (getD (s .requests) (place .result) zeroSlot .request) answer in
     record {
-      line-run = lined at .line-run .ensures;
-      row-of = row-of (lined at);
-      pointed-to = at .pointed .ensures;
+      line-run = lined (node-of c) .line-run .ensures;
+      row-of = row-of (lined (node-of c));
+      pointed-to = node-of c .pointed .ensures;
+      node-at = node-is (told (eventful (placed (joined c))));
+      behind-at = behind-is (c .before);
       event-in = eventful (placed (joined c)) .event-in .ensures;
       place = place .ensures;
       applied-at = refl;
-      effect-of = c .before .before .before .before .run-line .ensures ∙ ap₂ effect (now .limit) (served .answers);
-      remote-of = refer .ensures .0 ∙ ap (λ (r : Referred). r .remote) references;
-      copies-of = refer .ensures .1 ∙ ap (λ (r : Referred). r .copies) references;
-      more-of = c .more-of .ensures;
+      effect-of = c .run-line .ensures ∙ ap₂ effect (now .limit) (serves (joined c) .answers);
+      remote-of = remote;
+      copies-of = copies;
+      written-to = written;
+      more-of = more;
     }
+
+-- and with what they answered
+called : (c : tie.After-written Inv-loop μ-loop)
+    → let run = ran (c .before) in
+    let at = node-of run in
+    Called (method (entry-of run)) (state (entry-of run)) (thread (entry-of run)) (lined at .line-run .result) (row (lined at)) (at .pointed .result) (node (told (eventful (placed (joined run))))) (run .before .if6 .behind) (eventful (placed (joined run)) .event-in .result) (placed (joined run) .call-place .result) (applied (eventful (placed (joined run)))) (run .run-line .result) (c .before .before .refer-all .result) (c .before .before .refer-all .last .1 .0) (c .written .result) (c .before .more-of .result)
+called c =
+    let run = ran (c .before) in
+    let at = node-of run in
+    let t = thread (entry-of run) in
+    let referred = c .before .before .refer-all in
+    let references = ap₂ (λ (n : ℕ) (s : State). referredBy (method (entry-of run)) n (t .0) (s .copies) (accessesOf (row (lined at)) (at .pointed .result) (node (told (eventful (placed (joined run)))) .next)))
+    (entry-of run .before .loop .inv .threads) (serves (joined run) .state) in
+    called-by run (referred .ensures .0 ∙ ap (λ (r : Referred). r .remote) references) (referred .ensures .1 ∙ ap (λ (r : Referred). r .copies) references) (c .written .ensures)
+    (c .before .more-of .ensures)
+
+-- the line is not refused
+done : (c : tie.After-written Inv-loop μ-loop) → ran (c .before) .run-line .result .refusal ≡ 0
+done c = c .before .before .before .before .before .if7 .left
 
 -- the places of the entry's call and of the call that it serves
 call-small : (c : tie.After-call-place2 Inv-loop μ-loop) → c .call-place2 .result < mostCalls
 call-small c =
-    let at = entry-of (counted c) in
+    let all = counted c in
+    let at = entry-of (ran (all .before)) in
     let now = at .before .loop .inv in
-    let is = is-call _ _ (now .fits) (now .running) (at .loop-test .taken) (called (counted c)) (c .call-place2 .ensures) in
-    omega (arith, is, call-below _ _ (now .fits) (now .running) (at .loop-test .taken))
+    let is = is-call _ _ _ (now .fits) (now .running) (at .loop-test .taken) (called all) (done all) (c .call-place2 .ensures) in
+    omega (arith, is, call-below _ _ _ (now .fits) (now .running) (at .loop-test .taken) (fine _ _ _ (now .fits) (now .running) (at .loop-test .taken) (called all) (done all)))
+
+served-is : (c : tie.After-served-place Inv-loop μ-loop)
+    → let all = counted (c .before .before .before) in
+    c .served-place .result ≡ cond (placed (joined (ran (all .before))) .before .same-event2 .result) (getD (entry-of (ran (all .before)) .before .loop .given) (node-of (ran (all .before)) .pointed .result .0) 0) (c .before .before .before .call-place2 .result)
+served-is c =
+    let all = counted (c .before .before .before) in
+    c .served-place .ensures
+    ∙ ap (λ (k : ℕ). cond (placed (joined (ran (all .before))) .before .same-event2 .result) k (c .before .before .before .call-place2 .result)) (c .before .given-at .ensures)
 
 served-small : (c : tie.After-served-place Inv-loop μ-loop) → c .served-place .result < mostCalls
 served-small c =
-    let placing = c .before in
-    let at = entry-of (counted placing) in
+    let placing = c .before .before .before in
+    let all = counted placing in
+    let at = entry-of (ran (all .before)) in
     let now = at .before .loop .inv in
-    let is = is-served _ _ (now .fits) (now .running) (at .loop-test .taken) (called (counted placing)) (placing .call-place2 .ensures) (placed (joined (counted placing)) .before .same-event2 .ensures) (c .served-place .ensures) in
-    omega (arith, is, their-below _ _ (now .fits) (now .running) (at .loop-test .taken))
+    let is = is-served _ _ _ (now .fits) (now .running) (at .loop-test .taken) (called all) (done all) (placing .call-place2 .ensures) (placed (joined (ran (all .before))) .before .same-event2 .ensures) (served-is c) in
+    omega (arith, is, their-below _ _ _ (now .fits) (now .running) (at .loop-test .taken) (fine _ _ _ (now .fits) (now .running) (at .loop-test .taken) (called all) (done all)))
 
 -- the entry's number
-number-small : (c : tie.After-call-place2 Inv-loop μ-loop) → entry-of (counted c) .before .loop .i < 32768
+number-small : (c : tie.After-call-place2 Inv-loop μ-loop) → entry-of (ran (counted c .before)) .before .loop .i < 32768
 number-small c =
-    let at = entry-of (counted c) in
+    let at = entry-of (ran (counted c .before)) in
     let now = at .before .loop .inv in
-    number-few _ _ (now .fits) (now .running) (at .loop-test .taken)
+    number-few _ _ _ (now .fits) (now .running) (at .loop-test .taken)
+
+-- the state before Tail and the counts are stored: J has what was applied
+abbrev storedIn : State → ThreadId → Effect → List ℕ → List Node → State
+storedIn J t e copies nodes = record {
+  method = J .method;
+  n = J .n;
+  h = J .h;
+  kind = J .kind;
+  capacity = J .capacity;
+  tail = J .tail;
+  threads = set (J .threads) (t .0) (e .thread);
+  nodes = nodes;
+  requests = J .requests;
+  copies = copies;
+  object = J .object;
+  counts = J .counts;
+}
+
+stored : (c : tie.Joined8 Inv-loop μ-loop)
+    → let all = writes (c .before) in
+    let run = ran (all .before) in
+    let J = joined run .if5 .state in
+    c .if8 .state ≡ storedIn J (thread (entry-of run)) (run .run-line .result) (all .before .before .refer-all .last .1 .0) (set (J .nodes) (all .written .result .0) (run .run-line .result .node))
+stored c =
+    let all = writes (c .before) in
+    let run = ran (all .before) in
+    let J = joined run .if5 .state in
+    let inside : length (J .nodes) ≡ mostNodes = ap length (nodes-same (joined run)) ∙ long (entry-of run) in
+    let none = set-out (J .nodes) (all .written .result .0) (run .run-line .result .node) in
+    ⊎-elim (λ w. w .1)
+    (λ w. w .1 ∙ ap (storedIn J (thread (entry-of run)) (run .run-line .result) (all .before .before .refer-all .last .1 .0)) (sym (none (omega (arith, inside, w .0 .left)))))
+    (c .if8 .came)
 
 all-rows-requires : tie.Need-all-rows-requires Inv-loop μ-loop
 all-rows-requires c κs = search needs
+
+spin-line-requires : tie.Need-spin-line-requires Inv-loop μ-loop
+spin-line-requires c κs = search needs
 
 unkept-requires : tie.Need-unkept-requires Inv-loop μ-loop
 unkept-requires c κs = search needs
 
 loop-holds : tie.Need-loop-holds Inv-loop μ-loop
-loop-holds c = looping-start (c .before .all-rows .ensures) (ap (replicate mostCalls) (c .unkept .ensures)) (c .before .before .before .pre)
+loop-holds c = looping-start (c .before .before .all-rows .ensures) (c .before .spin-line .ensures) (ap (replicate mostCalls) (c .unkept .ensures)) (c .before .before .before .before .pre)
 
-shared-slice-read-t58 : tie.Need-shared-slice-read-t58 Inv-loop μ-loop
-shared-slice-read-t58 c = c .before .loop-test .taken
+shared-slice-read-t69 : tie.Need-shared-slice-read-t69 Inv-loop μ-loop
+shared-slice-read-t69 c = c .before .loop-test .taken
 
 cast-t : tie.Need-cast-t Inv-loop μ-loop
 cast-t c = omega (arith, thread-below (c .before .before))
@@ -245,26 +355,29 @@ mul-seen c = omega (arith, thread-below (c .before .before))
 element-copy-out-seen : tie.Need-element-copy-out-seen Inv-loop μ-loop
 element-copy-out-seen c = thread-below (c .before .before)
 
+spin-node-requires : tie.Need-spin-node-requires Inv-loop μ-loop
+spin-node-requires c κs = search needs
+
 place-requires : tie.Need-place-requires Inv-loop μ-loop
 place-requires c κs = search needs
 
 cast-spun : tie.Need-cast-spun Inv-loop μ-loop
-cast-spun c = omega (arith, cur-below (c .before .before))
+cast-spun c = omega (arith, waited-below (c .before .before))
 
 mul-if2 : tie.Need-mul-if2 Inv-loop μ-loop
-mul-if2 c = omega (arith, cur-below (c .before .before))
+mul-if2 c = omega (arith, waited-below (c .before .before))
 
 element-copy-out-if2 : tie.Need-element-copy-out-if2 Inv-loop μ-loop
-element-copy-out-if2 c = cur-below (c .before .before)
+element-copy-out-if2 c = waited-below (c .before .before)
 
-mul-has-copy : tie.Need-mul-has-copy Inv-loop μ-loop
-mul-has-copy c = omega (arith, c .before .place .ensures, cur-below (c .before .before))
+mul-at-hand : tie.Need-mul-at-hand Inv-loop μ-loop
+mul-at-hand c = omega (arith, c .before .place .ensures, waited-below (c .before .before))
 
-element-copy-out-has-copy : tie.Need-element-copy-out-has-copy Inv-loop μ-loop
-element-copy-out-has-copy c = omega (arith, c .before .place .ensures, cur-below (c .before .before))
+element-copy-out-at-hand : tie.Need-element-copy-out-at-hand Inv-loop μ-loop
+element-copy-out-at-hand c = omega (arith, c .before .place .ensures, waited-below (c .before .before))
 
-has-copy-requires : tie.Need-has-copy-requires Inv-loop μ-loop
-has-copy-requires c κs = search needs
+at-hand-requires : tie.Need-at-hand-requires Inv-loop μ-loop
+at-hand-requires c κs = search needs
 
 add-state : tie.Need-add-state Inv-loop μ-loop
 add-state c = let at = entry-spun c in omega (arith, counts-fit (at .before .loop .inv) (at .loop-test .taken) (spun c))
@@ -300,9 +413,7 @@ same-event-requires : tie.Need-same-event-requires Inv-loop μ-loop
 same-event-requires c κs = search needs
 
 add-state-2 : tie.Need-add-state-2 Inv-loop μ-loop
-add-state-2 c =
-    let at = entry (rowed (c .before)) in
-    omega (arith, counts-fit (at .before .loop .inv) (at .loop-test .taken) (blank-quiet _ _ (blank c)))
+add-state-2 c = let at = entry (rowed (c .before)) in omega (arith, counts-fit (at .before .loop .inv) (at .loop-test .taken) (blank c))
 
 add-i-2 : tie.Need-add-i-2 Inv-loop μ-loop
 add-i-2 c = omega (arith, i-fits (entry (rowed (c .before .before))))
@@ -311,21 +422,22 @@ loop-less-2 : tie.Need-loop-less-2 Inv-loop μ-loop
 loop-less-2 c = omega (arith, entry (rowed (c .before .before)) .loop-test .taken)
 
 loop-again-2 : tie.Need-loop-again-2 Inv-loop μ-loop
-loop-again-2 c =
-    let at = entry (rowed (c .before .before)) in
-    looping-quiet (at .before .loop .inv) (at .loop-test .taken) (blank-quiet _ _ (blank (c .before)))
+loop-again-2 c = let at = entry (rowed (c .before .before)) in looping-quiet (at .before .loop .inv) (at .loop-test .taken) (blank (c .before))
 
 pointed-requires : tie.Need-pointed-requires Inv-loop μ-loop
 pointed-requires c κs = search needs
 
 cast-m : tie.Need-cast-m Inv-loop μ-loop
-cast-m c = omega (arith, node-below (c .before))
+cast-m c = search needs
+
+zero-node-requires : tie.Need-zero-node-requires Inv-loop μ-loop
+zero-node-requires c κs = search needs
 
 mul-node : tie.Need-mul-node Inv-loop μ-loop
-mul-node c = omega (arith, node-below (c .before))
+mul-node c = search needs
 
 element-copy-out-node : tie.Need-element-copy-out-node Inv-loop μ-loop
-element-copy-out-node c = node-below (c .before)
+element-copy-out-node c = search needs
 
 event-in-requires : tie.Need-event-in-requires Inv-loop μ-loop
 event-in-requires c κs = search needs
@@ -345,17 +457,38 @@ element-copy-out-slot c = place-below c
 served-by-requires : tie.Need-served-by-requires Inv-loop μ-loop
 served-by-requires c κs = search needs
 
+cast-b : tie.Need-cast-b Inv-loop μ-loop
+cast-b c = search needs
+
+zero-node-requires-2 : tie.Need-zero-node-requires-2 Inv-loop μ-loop
+zero-node-requires-2 c κs = search needs
+
+mul-behind : tie.Need-mul-behind Inv-loop μ-loop
+mul-behind c = search needs
+
+element-copy-out-behind : tie.Need-element-copy-out-behind Inv-loop μ-loop
+element-copy-out-behind c = search needs
+
 run-line-requires : tie.Need-run-line-requires Inv-loop μ-loop
 run-line-requires c κs = search needs
 
+unplayed-requires : tie.Need-unplayed-requires Inv-loop μ-loop
+unplayed-requires c κs = search needs
+
+returns : tie.Need-returns Inv-loop μ-loop
+returns c =
+    let run = c .before .before .before in
+    let at = entry-of run in
+    c .unplayed .ensures ∙ looping-null (at .before .loop .inv) (at .loop-test .taken) (called-by run refl refl refl refl) (c .before .if7 .taken)
+
 cast-accesses : tie.Need-cast-accesses Inv-loop μ-loop
-cast-accesses c = omega (arith, line-below (line-of c))
+cast-accesses c = omega (arith, line-below (lined (node-of (c .before .before))))
 
 mul-accesses : tie.Need-mul-accesses Inv-loop μ-loop
-mul-accesses c = omega (arith, line-below (line-of c))
+mul-accesses c = omega (arith, line-below (lined (node-of (c .before .before))))
 
 array-copy-out-accesses : tie.Need-array-copy-out-accesses Inv-loop μ-loop
-array-copy-out-accesses c = line-below (line-of c)
+array-copy-out-accesses c = line-below (lined (node-of (c .before .before)))
 
 refer-all-requires : tie.Need-refer-all-requires Inv-loop μ-loop
 refer-all-requires c κs = search needs
@@ -363,105 +496,118 @@ refer-all-requires c κs = search needs
 more-of-requires : tie.Need-more-of-requires Inv-loop μ-loop
 more-of-requires c κs = search needs
 
+written-requires : tie.Need-written-requires Inv-loop μ-loop
+written-requires c κs = search needs
+
+cast-w : tie.Need-cast-w Inv-loop μ-loop
+cast-w c = search needs
+
 plus-requires : tie.Need-plus-requires Inv-loop μ-loop
 plus-requires c κs = search needs
 
 mul-thread-after : tie.Need-mul-thread-after Inv-loop μ-loop
-mul-thread-after c = omega (arith, thread-below (entry-of (c .before .before .before .before)))
+mul-thread-after c = omega (arith, thread-below (entry-of (ran (writes c .before))))
 
 element-set-from-thread-after : tie.Need-element-set-from-thread-after Inv-loop μ-loop
-element-set-from-thread-after c = thread-below (entry-of (c .before .before .before .before))
+element-set-from-thread-after c = thread-below (entry-of (ran (writes c .before)))
 
 mul-node-after : tie.Need-mul-node-after Inv-loop μ-loop
-mul-node-after c = omega (arith, node-below (node-of (c .before .before .before .before)))
+mul-node-after c = search needs
 
 element-set-from-node-after : tie.Need-element-set-from-node-after Inv-loop μ-loop
-element-set-from-node-after c = node-below (node-of (c .before .before .before .before))
+element-set-from-node-after c = search needs
 
 call-place-requires-2 : tie.Need-call-place-requires-2 Inv-loop μ-loop
 call-place-requires-2 c κs = search needs
 
 mul-turn : tie.Need-mul-turn Inv-loop μ-loop
-mul-turn c = omega (arith, thread-below (entry-of (counted c)))
+mul-turn c = omega (arith, thread-below (entry-of (ran (counted c .before))))
 
 array-read-turn : tie.Need-array-read-turn Inv-loop μ-loop
-array-read-turn c = thread-below (entry-of (counted c))
+array-read-turn c = thread-below (entry-of (ran (counted c .before)))
 
-mul-served-place : tie.Need-mul-served-place Inv-loop μ-loop
-mul-served-place c = omega (arith, node-below (node-of (counted c)))
+slice-aggregate-given-at : tie.Need-slice-aggregate-given-at Inv-loop μ-loop
+slice-aggregate-given-at c = sym (entry-of (ran (counted (c .before) .before)) .before .loop .inv .running .tables .nodes-long)
 
-array-read-served-place : tie.Need-array-read-served-place Inv-loop μ-loop
-array-read-served-place c = node-below (node-of (counted c))
+given-at-requires : tie.Need-given-at-requires Inv-loop μ-loop
+given-at-requires c κs = search needs
 
 served-place-requires : tie.Need-served-place-requires Inv-loop μ-loop
 served-place-requires c κs = search needs
+
+assigned-requires : tie.Need-assigned-requires Inv-loop μ-loop
+assigned-requires c κs = search needs
 
 note-entry-requires : tie.Need-note-entry-requires Inv-loop μ-loop
 note-entry-requires c κs = search needs
 
 mul-mine : tie.Need-mul-mine Inv-loop μ-loop
-mul-mine c = omega (arith, call-small (c .before .before .before .before .before))
+mul-mine c = omega (arith, call-small (c .before .before .before .before .before .before .before .before))
 
 array-copy-out-mine : tie.Need-array-copy-out-mine Inv-loop μ-loop
-array-copy-out-mine c = call-small (c .before .before .before .before .before)
+array-copy-out-mine c = call-small (c .before .before .before .before .before .before .before .before)
 
 cast-after-entry : tie.Need-cast-after-entry Inv-loop μ-loop
-cast-after-entry c = omega (arith, number-small (c .before .before .before .before .before .before))
+cast-after-entry c = omega (arith, number-small (c .before .before .before .before .before .before .before .before .before))
 
 after-entry-requires : tie.Need-after-entry-requires Inv-loop μ-loop
 after-entry-requires c κs = search needs
 
 mul-kept : tie.Need-mul-kept Inv-loop μ-loop
-mul-kept c = omega (arith, call-small (c .before .before .before .before .before .before .before))
+mul-kept c = omega (arith, call-small (c .before .before .before .before .before .before .before .before .before .before))
 
 array-set-from-kept : tie.Need-array-set-from-kept Inv-loop μ-loop
-array-set-from-kept c = call-small (c .before .before .before .before .before .before .before)
+array-set-from-kept c = call-small (c .before .before .before .before .before .before .before .before .before .before)
 
 mul-theirs : tie.Need-mul-theirs Inv-loop μ-loop
-mul-theirs c = omega (arith, served-small (c .before .before .before .before .before .before))
+mul-theirs c = omega (arith, served-small (c .before .before .before .before .before .before .before))
 
 array-copy-out-theirs : tie.Need-array-copy-out-theirs Inv-loop μ-loop
-array-copy-out-theirs c = served-small (c .before .before .before .before .before .before)
+array-copy-out-theirs c = served-small (c .before .before .before .before .before .before .before)
 
 after-serving-requires : tie.Need-after-serving-requires Inv-loop μ-loop
 after-serving-requires c κs = search needs
 
 mul-kept-2 : tie.Need-mul-kept-2 Inv-loop μ-loop
-mul-kept-2 c = omega (arith, served-small (c .before .before .before .before .before .before .before .before))
+mul-kept-2 c = omega (arith, served-small (c .before .before .before .before .before .before .before .before .before))
 
 array-set-from-kept-2 : tie.Need-array-set-from-kept-2 Inv-loop μ-loop
-array-set-from-kept-2 c = served-small (c .before .before .before .before .before .before .before .before)
+array-set-from-kept-2 c = served-small (c .before .before .before .before .before .before .before .before .before)
 
 -- from the end of the loop back to the entry's call
 abbrev call-of : tie.After-after-serving Inv-loop μ-loop → tie.After-call-place2 Inv-loop μ-loop
-call-of c = c .before .before .before .before .before .before .before .before .before
+call-of c = c .before .before .before .before .before .before .before .before .before .before .before .before
 
 add-i-3 : tie.Need-add-i-3 Inv-loop μ-loop
-add-i-3 c = omega (arith, i-fits (entry-of (counted (call-of c))))
+add-i-3 c = omega (arith, i-fits (entry-of (ran (counted (call-of c) .before))))
 
 loop-less-3 : tie.Need-loop-less-3 Inv-loop μ-loop
-loop-less-3 c = omega (arith, entry-of (counted (call-of c)) .loop-test .taken)
+loop-less-3 c = omega (arith, entry-of (ran (counted (call-of c) .before)) .loop-test .taken)
 
 loop-again-3 : tie.Need-loop-again-3 Inv-loop μ-loop
 loop-again-3 c =
     let call = call-of c in
-    let more = counted call in
-    let at = entry-of more in
+    let all = counted call in
+    let run = ran (all .before) in
+    let at = entry-of run in
     let noted = c .before .before .before .before .note-entry .ensures in
-    looping-next (at .before .loop .inv) (at .loop-test .taken) (called more) (serves (joined more)) (call .before .plus .ensures)
+    rw (stored (call .before))
+    (looping-next (at .before .loop .inv) (at .loop-test .taken) (called all) (done all) (serves (joined run))
+    (ap (λ (l : List Node). set l (all .written .result .0) (run .run-line .result .node)) (nodes-same (joined run))) (call .before .before .plus .ensures)
     (record {
-      of-applies = placed (joined more) .before .same-event2 .ensures;
+      of-applies = placed (joined run) .before .same-event2 .ensures;
       of-call = call .call-place2 .ensures;
-      of-served = c .before .before .before .before .before .before .before .before .served-place .ensures;
+      of-served = served-is (c .before .before .before .before .before .before .before .before .before);
+      of-assigned = c .before .before .before .before .before .before .before .before .assigned .ensures;
       of-turns = noted .0;
       of-given = noted .1 .0;
       of-order = noted .1 .1;
       of-mine = c .before .before .after-entry .ensures;
       of-theirs = c .after-serving .ensures;
-    })
+    }))
 
-returns : tie.Need-returns Inv-loop μ-loop
-returns c = looping-ends (c .before .before .loop .inv) (c .before .loop-test .left)
+returns-2 : tie.Need-returns-2 Inv-loop μ-loop
+returns-2 c = looping-ends (c .before .before .loop .inv) (c .before .loop-test .left)
 
 pub from-start-spec : {M : Type 1} → statement M
 from-start-spec =
@@ -470,19 +616,21 @@ from-start-spec =
     Inv-loop
     μ-loop
     all-rows-requires
+    spin-line-requires
     unkept-requires
     loop-holds
-    shared-slice-read-t58
+    shared-slice-read-t69
     cast-t
     mul-seen
     element-copy-out-seen
+    spin-node-requires
     place-requires
     cast-spun
     mul-if2
     element-copy-out-if2
-    mul-has-copy
-    element-copy-out-has-copy
-    has-copy-requires
+    mul-at-hand
+    element-copy-out-at-hand
+    at-hand-requires
     add-state
     add-i
     loop-less
@@ -500,6 +648,7 @@ from-start-spec =
     loop-again-2
     pointed-requires
     cast-m
+    zero-node-requires
     mul-node
     element-copy-out-node
     event-in-requires
@@ -508,12 +657,20 @@ from-start-spec =
     mul-slot
     element-copy-out-slot
     served-by-requires
+    cast-b
+    zero-node-requires-2
+    mul-behind
+    element-copy-out-behind
     run-line-requires
+    unplayed-requires
+    returns
     cast-accesses
     mul-accesses
     array-copy-out-accesses
     refer-all-requires
     more-of-requires
+    written-requires
+    cast-w
     plus-requires
     mul-thread-after
     element-set-from-thread-after
@@ -522,9 +679,10 @@ from-start-spec =
     call-place-requires-2
     mul-turn
     array-read-turn
-    mul-served-place
-    array-read-served-place
+    slice-aggregate-given-at
+    given-at-requires
     served-place-requires
+    assigned-requires
     note-entry-requires
     mul-mine
     array-copy-out-mine
@@ -540,4 +698,4 @@ from-start-spec =
     add-i-3
     loop-less-3
     loop-again-3
-    returns)
+    returns-2)
