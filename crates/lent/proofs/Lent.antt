@@ -6,15 +6,15 @@ use Rattle.machine.specs.declared.ThreadId.{ThreadId}
 use Rattle.state.specs.declared.State.{State}
 use Rattle.state.specs.Range.{inRange}
 use Rattle.step.specs.declared.Stepped.{Stepped}
-use Rattle.step.specs.Entry.{entered}
-use Rattle.step.specs.Step.{refused, goesThrough, stepOf}
+use Rattle.step.specs.ByMethod.{enteredBy}
+use Rattle.step.specs.Step.{refused, goesThroughBy, stepOf}
 use Rattle.lent.specs.Promise.{StepsLent}
 
 refused-stays : (s : State) (t : ThreadId) → (stepOf s t .refusal ≡ 0 → ⊥) → stepOf s t .state ≡ s
-refused-stays s t = by-tests (inRange s) (leb (s .n) (t .0)) (goesThrough s t)
+refused-stays s t = by-tests (inRange s) (leb (s .n) (t .0)) (goesThroughBy (s .method) s t)
   where
     after : (fits past through : Bool) → Stepped
-    after fits past through = cond fits (cond past (refused 11 s) (cond through (record { refusal = 0; state = entered s t }) (refused 14 s))) (refused 14 s)
+    after fits past through = cond fits (cond past (refused 11 s) (cond through (record { refusal = 0; state = enteredBy (s .method) s t }) (refused 14 s))) (refused 14 s)
 
     by-tests : (fits past through : Bool) → (after fits past through .refusal ≡ 0 → ⊥) → after fits past through .state ≡ s
     by-tests false past through refusal = refl

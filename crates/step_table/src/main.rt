@@ -1,4 +1,5 @@
-// Prints what a single step answers and changes: each line, each range of a state, each outcome out of range, and whole runs by steps. 0 is no refusal.
+// Prints what a single step answers and changes: each line, each range of a state, each outcome out of range, and whole runs by steps, of CC-Synch; then the like of DSM-Synch. 0 is no refusal.
+mod dsm;
 mod lines;
 mod make;
 mod outcomes;
@@ -12,4 +13,5 @@ fn main() {
     ranges::run();
     outcomes::run();
     runs::run();
+    dsm::run();
 }

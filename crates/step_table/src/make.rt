@@ -1,5 +1,6 @@
 // States: document 01's start, a state in use whose numbers past n are out of range, and a state with one part changed.
 use machine::Announced;
+use machine::Method;
 use machine::Node;
 use machine::NodeId;
 use machine::RetVal;
@@ -48,6 +49,9 @@ fn thread_with(thread: Thread, word: Word) -> Thread {
         b'j' => t.tmp.0 = value,
         b'x' => t.tmpnext.0 = value,
         b'v' => t.served = value,
+        b'O' => t.toggle = value,
+        b'y' => t.my.0 = value,
+        b'J' => t.pred.0 = value,
         _ => {}
     }
     t
@@ -225,7 +229,7 @@ fn node(req: Announced, ret: RetVal, flag: bool, next: u8) -> Node {
 }
 
 // All threads, nodes and requests alike, nothing held and nothing counted.
-fn whole(kind: Kind, n: u8, thread: Thread, node: Node, request: Request) -> State {
+fn whole(method: Method, kind: Kind, n: u8, thread: Thread, node: Node, request: Request) -> State {
     let slot = Slot { request };
     let threads = [thread; 16];
     let nodes = [node; machine::NODES];
@@ -240,6 +244,7 @@ fn whole(kind: Kind, n: u8, thread: Thread, node: Node, request: Request) -> Sta
         remote: 0,
     };
     State {
+        method,
         n,
         h: 1,
         kind,
@@ -254,21 +259,21 @@ fn whole(kind: Kind, n: u8, thread: Thread, node: Node, request: Request) -> Sta
     }
 }
 
-// Document 01's start but for the threads' own nodes; the threads have as many requests each, all alike.
-pub(crate) fn started(kind: Kind, n: u8, count: u8) -> State {
+// The start but for the threads' own nodes and Tail; the threads have as many requests each, all alike.
+pub(crate) fn started(method: Method, kind: Kind, n: u8, count: u8) -> State {
     let thread = thread(count, 0, 0, 255, 0);
     let node = node(Announced::NoRequest, RetVal::NoAnswer, false, 255);
     let request = object::request_of(object::least_code(kind), 5);
-    whole(kind, n, thread, node, request)
+    whole(method, kind, n, thread, node, request)
 }
 
 // Three threads, every number of a thread or a node out of range, and requests that the object doesn't know.
-pub(crate) fn strange(kind: Kind) -> State {
+pub(crate) fn strange(method: Method, kind: Kind) -> State {
     let thread = thread(17, 99, 22, 99, 99);
     let request = object::request_of(object::least_code(kind) ^ 2, 98);
     let asked = Announced::Asked(request);
     let node = node(asked, RetVal::Answered(Answer::Done(99)), true, 99);
-    let mut s = whole(kind, 3, thread, node, request);
+    let mut s = whole(method, kind, 3, thread, node, request);
     let mut object = s.object;
     let items = items();
     object.items = items;

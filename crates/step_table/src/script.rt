@@ -4,6 +4,7 @@
 use crate::make;
 use crate::make::Word;
 use crate::show;
+use machine::Method;
 use object::Kind;
 use state::State;
 
@@ -67,16 +68,16 @@ fn changed(state: State, script: &[u8]) -> State {
 
 fn kind(letter: u8) -> Kind {
     match letter {
-        b'q' | b'Q' | b'X' => Kind::Queue,
+        b'q' | b'Q' | b'X' | b'H' => Kind::Queue,
         b's' | b'S' | b'Y' => Kind::Stack,
         _ => Kind::Counter,
     }
 }
 
-// Three threads in use, thread 2 without a request left.
+// Three threads of CC-Synch in use, thread 2 without a request left.
 fn used(kind: Kind) -> State {
     changed(
-        make::strange(kind),
+        make::strange(Method::CcSynch, kind),
         b"h5 t1 #77 R10 T20 B30 L40 M50 z0
 r0=3 b0=1 l0=0 i0=2 u0=0 j0=1 x0=3 v0=4 r1=3 b1=2 l1=0 i1=0 u1=2 j1=3 x1=1 v1=1
 r2=1 b2=1 l2=0 i2=3 u2=255 j2=255 x2=255 v2=0
@@ -88,17 +89,35 @@ K0=30 K1=31 K2=32 K16=32 K17=30 K18=31 K32=31.",
 // Document 01's start.
 fn started(kind: Kind, n: u8, count: u8) -> State {
     changed(
-        make::started(kind, n, count),
+        make::started(Method::CcSynch, kind, n, count),
         b"i0=1 i1=2 i2=3 i3=4 i4=5 i5=6 i6=7 i7=8 i8=9 i9=10 i10=11 i11=12 i12=13 i13=14 i14=15 i15=16.",
     )
 }
 
-// A small letter is a state in use, Q, S and C one thread at its start, X, Y and Z sixteen with sixteen requests each.
+// Two threads of DSM-Synch in use, thread 1 without a request left: nodes 0 and 1 are thread 0's, 2 and 3 thread 1's.
+fn used_dsm(kind: Kind) -> State {
+    changed(
+        make::strange(Method::DsmSynch, kind),
+        b"n2 h1 m4 o2 t1 #77 R10 T20 B30 L40 M50 z0
+r0=3 b0=1 l0=0 O0=1 y0=1 J0=2 j0=3 v0=0 r1=1 b1=1 l1=0 O1=0 y1=2 J1=255 j1=255 v1=0
+k0=10 V0=20 w0=0 d0=0 f0=255 k1=11 V1=21 w1=0 d1=0 f1=255 k2=12 V2=22 w2=0 d2=0 f2=255 k3=13 V3=23 w3=0 d3=0 f3=255
+K0=30 K1=31 K2=32 K16=32.",
+    )
+}
+
+// The start of DSM-Synch.
+fn started_dsm(kind: Kind, n: u8, count: u8) -> State {
+    changed(make::started(Method::DsmSynch, kind, n, count), b"t255.")
+}
+
+// A small letter is a state in use, Q, S and C one thread at its start, X, Y and Z sixteen with sixteen requests each; H and I are the like of q and C by DSM-Synch.
 fn base(letter: u8) -> State {
     let kind = kind(letter);
     match letter {
         b'q' | b's' => changed(used(kind), b"m4 o2."),
         b'c' => used(kind),
+        b'H' => used_dsm(kind),
+        b'I' => started_dsm(kind, 1, 0),
         b'Q' | b'S' | b'C' => started(kind, 1, 0),
         _ => started(kind, 16, 16),
     }

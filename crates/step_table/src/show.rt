@@ -115,6 +115,14 @@ fn words(whole: &[u8], at: usize, part: &[u8], before: u64, after: u64) {
 }
 
 fn head(a: State, b: State) {
+    let stepped_by = a.method;
+    let steps_by = b.method;
+    let method = machine::method_number(steps_by);
+    single(
+        b"method",
+        wide8(machine::method_number(stepped_by)),
+        wide8(method),
+    );
     single(b"n", wide8(a.n), wide8(b.n));
     single(b"h", wide8(a.h), wide8(b.h));
     let was = a.kind;
@@ -258,6 +266,9 @@ fn field_name(field: u8) {
         b'j' => text(b", tmp"),
         b'x' => text(b", tmpnext"),
         b'v' => text(b", served"),
+        b'O' => text(b", toggle"),
+        b'y' => text(b", my"),
+        b'J' => text(b", pred"),
         b'f' => text(b", next"),
         b'z' => text(b", copies"),
         b'@' => text(b", entry"),
