@@ -2,6 +2,7 @@ pub mod Codec
 pub mod Each
 pub mod Examples
 pub mod Judging
+pub mod Methods
 pub mod Numbered
 pub mod Passes
 pub mod Prefix

@@ -3,11 +3,12 @@ use Prim.Native.Nat.{ℕ, zero, suc}
 use native.Mathlib.Decide.{decLe}
 use native.Mathlib.Omega.{arith}
 use mathlib.Core.Path.{_≡_, refl}
-use mathlib.Core.Bool.{Bool, true, false, cond}
+use mathlib.Core.Bool.{Bool, true, false}
 use mathlib.Core.List.{List, [], _∷_}
 use lib.ListN.{length}
 use lib.Dec.{leb, eqb}
 use Rattle.object.specs.declared.Kind.{Kind}
+use Rattle.object.proofs.Choice.{either}
 use Rattle.object.specs.Paper.{kindOf, requestOf, valueAllowed}
 use Rattle.bench_file.specs.Reading.{Outcome, refused, read, Reader, after, done, rule, field, littleEndian, number, byte, ruledByte, several, end}
 use Rattle.bench_file.specs.Layout.{Fields, versionKnown, isMark, startReader, methodReader, limitsReader, headReader, requestReader, rowReader, scheduleReader, fileReader, refusedBy, judged, judgeOf}
@@ -77,12 +78,8 @@ start-numbered =
     after-numbered (number-numbered 2) (λ version.
     after-numbered (rule-numbered 3 (versionKnown version) (omega arith)) (λ u. done-numbered version))))
 
-choice-numbered : {A : Type 0} {r s : Reader A} (b : Bool) → Numbered r → Numbered s → Numbered (cond b r s)
-choice-numbered true first second = first
-choice-numbered false first second = second
-
 method-numbered : (version : ℕ) → Numbered (methodReader version)
-method-numbered version = choice-numbered (eqb version 1) (done-numbered _) (after-numbered (ruled-byte-numbered 15 _ (omega arith)) (λ number. done-numbered _))
+method-numbered version = either Numbered (eqb version 1) (λ e. done-numbered _) (λ e. after-numbered (ruled-byte-numbered 15 _ (omega arith)) (λ number. done-numbered _))
 
 limits-numbered : (version : ℕ) (object : Kind) → Numbered (limitsReader version object)
 unfolding limitsReader

@@ -4,7 +4,7 @@ use native.Mathlib.Nat.{suc-mul}
 use native.Mathlib.Decide.{decLe}
 use native.Mathlib.Omega.{arith}
 use mathlib.Core.Path.{_≡_, refl, sym, ap, _∙_}
-use mathlib.Core.Bool.{Bool, true, false, cond}
+use mathlib.Core.Bool.{Bool, true, false}
 use mathlib.Core.List.{List, [], _∷_, _++_}
 use lib.ListN.{length, take, drop, length-append, length-drop, take-append-drop}
 use lib.Seq.{length-take-le, take-all, take-append-le, drop-append-le}
@@ -13,6 +13,7 @@ use borrow.Author.Tests.{leb-true}
 use Rattle.object.specs.declared.Kind.{Kind}
 use Rattle.object.specs.Paper.{valueAllowed}
 use Rattle.object.specs.Each.{Each}
+use Rattle.object.proofs.Choice.{either}
 use Rattle.object.proofs.Each.{each-append}
 use Rattle.object.proofs.Within.{within-range}
 use Rattle.bench_file.specs.Reading.{Outcome, refused, read, Reader, after, done, rule, field, number, byte, ruledByte, several, end}
@@ -125,12 +126,8 @@ start-sees =
     chain (field-sees 3) (λ mark p. chain (rule-sees 2 (isMark mark) (λ e. e)) (λ u p. chain (number-sees 2) (λ version p.
     chain (rule-sees 3 (versionKnown version) (λ e. e)) (λ u p. done-sees version tt))))
 
-choice-sees : {A : Type 0} {P : A → Type 0} {width : ℕ} {r s : Reader A} (b : Bool) → Sees P width r → Sees P width s → Sees P width (cond b r s)
-choice-sees true first second = first
-choice-sees false first second = second
-
 method-sees : (version : ℕ) → Sees Any 1 (methodReader version)
-method-sees version = choice-sees (eqb version 1) (wider (omega arith) (done-sees _ tt)) (chain (ruled-sees 15 _) (λ number p. done-sees _ tt))
+method-sees version = either (Sees Any 1) (eqb version 1) (λ e. wider (omega arith) (done-sees _ tt)) (λ e. chain (ruled-sees 15 _) (λ number p. done-sees _ tt))
 
 limits-sees : (version : ℕ) (object : Kind) → Sees (λ head. head .n ≤ 16) 4 (limitsReader version object)
 unfolding limitsReader

@@ -1,7 +1,6 @@
 -- The fields of a bench file and its bytes are inverse to each other: what `judgeOf` of specs/Layout.antt accepts is what specs/Bytes.antt writes.
 -- Assumes nothing.
 use Prim.Native.Nat.{ℕ, _≤_, _<_, _^_}
-use native.Mathlib.Decide.{decLe}
 use native.Mathlib.Omega.{arith}
 use mathlib.Core.Path.{_≡_, refl, sym, ap}
 use mathlib.Core.Logic.{_↔_}
@@ -17,8 +16,7 @@ use Rattle.object.specs.declared.Request.the-variants.{Put, Take, Add}
 use Rattle.object.specs.Paper.{kindNumber, kindOf, requestCode, requestValue, requestOf, leastCode, mostCode, valueAllowed, leastCapacity, mostCapacity}
 use Rattle.object.specs.Apply.{knows}
 use Rattle.object.proofs.Inverse.{number-of-kind, kind-of-number, kind-range, most-code, code-told, value-told, request-told}
-use Rattle.machine.specs.declared.Method.{Method}
-use Rattle.machine.specs.declared.Method.the-variants.{CcSynch, DsmSynch}
+use Rattle.machine.specs.declared.Method.the-variants.{CcSynch}
 use Rattle.machine.specs.Methods.{methodNumber, methodOf}
 use Rattle.bench_file.specs.declared.Head.{Head}
 use Rattle.bench_file.specs.Reading.{Outcome, refused, read, _>>=_, done, ranged, several, end}
@@ -27,6 +25,7 @@ use Rattle.object.specs.Each.{Each}
 use Rattle.bench_file.specs.Bytes.{lowFirst, requestBytes, eachBytes, rowBytes, methodBytes, headBytes, bytesOf, Byte, RequestInRange, RowInRange, CapacityInRange, HeadInRange, InRange}
 use Rattle.object.proofs.Each.{each-append, each-map}
 use Rattle.object.proofs.Within.{within-range}
+use Rattle.bench_file.proofs.Methods.{number-of-method, method-of-number, method-range}
 use Rattle.bench_file.proofs.Each.{low-bytes}
 use Rattle.bench_file.proofs.Codec.{Codec, came, left-bytes, restated, done-codec, chain, ruled-codec, ruled-byte-codec, ranged-codec, field-codec, number-codec, several-codec}
 
@@ -57,33 +56,17 @@ start-codec =
       λ h. ((refl, (lit< tt, (lit< tt, (lit< tt, tt)))), (refl, (omega (arith, h), (within-range 1 version 2 .1 h, refl)))),
     ))
 
--- the method: no byte, or its number
-method-told : (number : ℕ) → number ≤ 1 → methodNumber (methodOf number) ≡ number
-method-told number h =
-    elim (decLe number 0) [
-      | yes e ↦ let none : number ≡ 0 = omega arith in rw none
-      | no e ↦ let one : number ≡ 1 = omega arith in rw one
-    ]
-
-number-told : (method : Method) → methodOf (methodNumber method) ≡ method
-number-told CcSynch = refl
-number-told DsmSynch = refl
-
-number-most : (method : Method) → methodNumber method ≤ 1
-number-most CcSynch = omega arith
-number-most DsmSynch = omega arith
-
--- by whether the version is 1
+-- the method, by whether the version is 1: no byte, or its number
 choice-codec : (first : Bool) → Codec (cond first (done CcSynch) (ranged 15 0 1 >>= λ number. done (methodOf number)))
     (λ method. cond first [] (methodNumber method ∷ [])) (λ method. first ≡ true → method ≡ CcSynch)
 choice-codec true = restated (done-codec CcSynch) (λ method. refl) (λ method. (λ g e. g, λ h. h refl))
 choice-codec false =
     restated
-    (chain methodNumber (λ number method g h. rw h (method-told number (g .1 .1))) (ranged-codec 15 0 1) (λ number. done-codec (methodOf number)))
+    (chain methodNumber (λ number method g h. rw h (method-of-number number (g .1 .1))) (ranged-codec 15 0 1) (λ number. done-codec (methodOf number)))
     (λ method. refl)
-    (λ method. (λ g e. let z : _≡_ {A = ℕ} 0 1 = cc in absurd (omega arith), λ h. (omega (arith, number-most method), sym (number-told method))))
+    (λ method. (λ g e. let z : _≡_ {A = ℕ} 0 1 = cc in absurd (omega arith), λ h. (omega (arith, method-range method), sym (number-of-method method))))
 
-method-codec : (version : ℕ) → Codec (methodReader version) (methodBytes version) (λ method. version ≡ 1 → method ≡ CcSynch)
+method-codec : (version : ℕ) → Codec (methodReader version) (λ method. methodBytes version (methodNumber method)) (λ method. version ≡ 1 → method ≡ CcSynch)
 method-codec version =
     restated (choice-codec (eqb version 1)) (λ method. refl) (λ method. (λ g e. g (eq-eqb _ _ e), λ h e. h (eqb-true version 1 e)))
 
@@ -107,7 +90,7 @@ record Limited (version : ℕ) (object : Kind) (head : Head) : Type 0 where
   runs : version ≡ 1 → head .method ≡ CcSynch
 
 limits-codec : (version : ℕ) (object : Kind)
-    → Codec (limitsReader version object) (λ head. head .n ∷ head .h ∷ head .capacity ∷ methodBytes version (head .method)) (Limited version object)
+    → Codec (limitsReader version object) (λ head. head .n ∷ head .h ∷ head .capacity ∷ methodBytes version (methodNumber (head .method))) (Limited version object)
 unfolding limitsReader
 limits-codec version object =
     restated
@@ -116,7 +99,7 @@ limits-codec version object =
     chain (λ head. head .capacity) (λ n head g h. ap (λ (head : Head). head .capacity) (h .1)) (ranged-codec 7 (leastCapacity object) (mostCapacity object)) (λ capacity.
     chain (λ head. head .method) (λ n head g h. ap (λ (head : Head). head .method) h) (method-codec version) (λ method.
     done-codec (record { version = version; object = object; n = n; h = h; capacity = capacity; method = method }))))))
-    (λ head. ap (λ (l : List ℕ). head .n ∷ head .h ∷ head .capacity ∷ l) (append-nil (methodBytes version (head .method))))
+    (λ head. ap (λ (l : List ℕ). head .n ∷ head .h ∷ head .capacity ∷ l) (append-nil (methodBytes version (methodNumber (head .method)))))
     (λ head. (
       λ g. let made = g .1 .1 .1 .1 in record {
         versioned = ap (λ (head : Head). head .version) made;

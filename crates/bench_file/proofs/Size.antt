@@ -1,5 +1,5 @@
 -- How long a file is: its head, two bytes for the schedule's length, one for each thread, five for each request and one for each entry. Assumes nothing.
-use Prim.Native.Nat.{ℕ, suc, _+_, _*_}
+use Prim.Native.Nat.{ℕ, suc, _+_, _*_, _≤_}
 use native.Mathlib.Omega.{arith}
 use mathlib.Core.Path.{_≡_, refl, ap}
 use mathlib.Core.Bool.{Bool, true, false, cond}
@@ -9,7 +9,7 @@ use lib.Dec.{eqb}
 use Rattle.object.specs.declared.Request.{Request}
 use Rattle.object.specs.Paper.{requestValue}
 use Rattle.object.specs.Each.{sumOf}
-use Rattle.machine.specs.declared.Method.{Method}
+use Rattle.object.proofs.Choice.{either}
 use Rattle.machine.specs.Methods.{methodNumber}
 use Rattle.bench_file.specs.Layout.{Fields, headLength}
 use Rattle.bench_file.specs.Bytes.{requestBytes, eachBytes, rowBytes, methodBytes, bytesOf}
@@ -28,9 +28,13 @@ method-length : (first : Bool) (number : ℕ) → 9 + length (cond first [] (num
 method-length true number = refl
 method-length false number = refl
 
-head-length : (version : ℕ) (method : Method) → 9 + length (methodBytes version method) ≡ headLength version
-head-length version method = method-length (eqb version 1) (methodNumber method)
+pub head-length : (version method : ℕ) → 9 + length (methodBytes version method) ≡ headLength version
+head-length version method = method-length (eqb version 1) method
+
+-- and so it has 9 bytes or 10
+pub head-range : (version : ℕ) → (9 ≤ headLength version) × (headLength version ≤ 10)
+head-range version = either (λ long. (9 ≤ long) × (long ≤ 10)) (eqb version 1) (λ e. omega arith) (λ e. omega arith)
 
 pub length-bytes : (f : Fields) → length (bytesOf f) ≡ headLength (f .head .version) + 2 + length (f .rows) + 5 * sumOf length (f .rows) + length (f .schedule)
 unfolding bytesOf
-length-bytes f = simp length-append (omega (arith, head-length (f .head .version) (f .head .method), rows-length (f .rows), low-length 2 (f .head .version), low-length 2 (length (f .schedule))))
+length-bytes f = simp length-append (omega (arith, head-length (f .head .version) (methodNumber (f .head .method)), rows-length (f .rows), low-length 2 (f .head .version), low-length 2 (length (f .schedule))))

@@ -11,7 +11,6 @@ use Rattle.object.specs.declared.Request.{Request}
 use Rattle.object.specs.declared.Request.the-variants.{Put, Take, Add}
 use Rattle.object.specs.Each.{Each}
 use Rattle.object.specs.Paper.{kindNumber, requestCode, requestValue}
-use Rattle.machine.specs.declared.Method.{Method}
 use Rattle.machine.specs.declared.Method.the-variants.{CcSynch}
 use Rattle.machine.specs.Methods.{methodNumber}
 use Rattle.bench_file.specs.declared.Head.{Head}
@@ -36,15 +35,15 @@ abbrev pub rowBytes : List Request → List ℕ
 rowBytes row = length row ∷ eachBytes requestBytes row
 
 -- the method's byte, which version 1 does not have
-abbrev pub methodBytes : ℕ → Method → List ℕ
-methodBytes version method = cond (eqb version 1) [] (methodNumber method ∷ [])
+abbrev pub methodBytes : ℕ → ℕ → List ℕ
+methodBytes version method = cond (eqb version 1) [] (method ∷ [])
 
 -- mark, version, object, n, h, capacity, method
 abbrev pub headBytes : Head → List ℕ
 headBytes head =
     (0x43 ∷ 0x43 ∷ 0x53 ∷ [])
     ++ lowFirst 2 (head .version)
-    ++ (kindNumber (head .object) ∷ head .n ∷ head .h ∷ head .capacity ∷ methodBytes (head .version) (head .method))
+    ++ (kindNumber (head .object) ∷ head .n ∷ head .h ∷ head .capacity ∷ methodBytes (head .version) (methodNumber (head .method)))
 
 -- the whole file
 unfoldable pub bytesOf : Fields → List ℕ

@@ -7,23 +7,28 @@ use mathlib.Core.Bool.{true}
 use mathlib.Core.List.{List, [], _∷_, _++_, map, append-nil}
 use lib.ListN.{length, length-append, length-map}
 use lib.Seq.{take-append-seam, drop-append-seam}
-use lib.Dec.{leb, ltb}
-use borrow.Author.Tests.{le-leb, lt-ltb}
+use lib.Dec.{leb, ltb, eqb}
+use borrow.Author.Tests.{le-leb, lt-ltb, eqb-true}
 use Rattle.object.specs.declared.Kind.{Kind}
 use Rattle.object.specs.declared.Request.{Request}
 use Rattle.object.specs.Paper.{kindNumber}
 use Rattle.object.proofs.Inverse.{number-of-kind, kind-range}
+use Rattle.machine.specs.declared.Method.{Method}
+use Rattle.machine.specs.declared.Method.the-variants.{CcSynch}
+use Rattle.machine.specs.Methods.{methodNumber}
 use Rattle.bench_file.specs.Reading.{read, several}
 use Rattle.bench_file.specs.Layout.{Fields, accepted, judgeOf, requestReader}
 use Rattle.object.specs.Each.{Each, every, sumOf}
 use Rattle.bench_file.specs.Bytes.{requestBytes, eachBytes, bytesOf, Byte, RequestInRange, RowInRange, InRange}
+use Rattle.object.proofs.Choice.{either}
 use Rattle.object.proofs.Each.{each-append, each-map, each-every}
 use Rattle.object.proofs.Within.{within-range}
 use Rattle.bench_file.proofs.Each.{eachBytes-append, eachBytes-length}
+use Rattle.bench_file.proofs.Methods.{number-of-method, method-range}
 use Rattle.bench_file.proofs.Size.{request-length}
 use Rattle.bench_file.proofs.Codec.{several-codec}
 use Rattle.bench_file.proofs.RoundTrip.{capacity-range, request-codec, accepted-in-range, writes-back}
-use Rattle.bench_writer.specs.Writer.{givenFrom, total, dealt, numberRules, countRules, sizeRules, entryRules, requestsReader, givenReader, givenOf, fitted, writeOf}
+use Rattle.bench_writer.specs.Writer.{givenFrom, total, dealt, mostMethod, numberRules, countRules, sizeRules, entryRules, requestsReader, givenReader, givenOf, fitted, writeOf}
 use Rattle.bench_writer.proofs.Rules.{rules-pass}
 
 -- the requests of all threads, one row after the other
@@ -55,6 +60,11 @@ counts-pass : (object : Kind) (rows : List (List Request)) → Each (RowInRange 
 counts-pass object [] p = refl
 counts-pass object (row ∷ rows) p = rw (le-leb (length row) 16 (p .0 .count)) (counts-pass object rows (p .1))
 
+-- a version has its methods: version 1 CC-Synch only
+method-most : (version : ℕ) (method : Method) → (version ≡ 1 → method ≡ CcSynch) → methodNumber method ≤ mostMethod version
+method-most version method h =
+    either (λ most. methodNumber method ≤ most) (eqb version 1) (λ e. rw (h (eqb-true version 1 e)) (omega arith)) (λ e. method-range method)
+
 module _ (f : Fields) (g : InRange f) where
   row-length : length (givenFrom f .requests) ≡ 5 * total (map length (f .rows))
   row-length = ap length (sym (flat-bytes (f .rows))) ∙ eachBytes-length requestBytes 5 request-length (flat (f .rows)) ∙ ap (λ (n : ℕ). 5 * n) (flat-length (f .rows))
@@ -64,16 +74,19 @@ module _ (f : Fields) (g : InRange f) where
       let e = several-codec (request-codec (f .head .object)) (total (map length (f .rows))) .forth (flat (f .rows)) [] (flat-length (f .rows), flat-range (f .head .object) (f .rows) (g .rows)) in
       rw (append-nil, flat-bytes) at e
 
-  numbers : Each (λ r. r .1 ≡ true) (numberRules (kindNumber (f .head .object)) (f .head .n) (f .head .h) (f .head .capacity))
+  numbers : Each (λ r. r .1 ≡ true) (numberRules (f .head .version) (kindNumber (f .head .object)) (f .head .n) (f .head .h) (f .head .capacity) (methodNumber (f .head .method)))
   numbers =
       let object = f .head .object in
       let (least, most) = capacity-range object (f .head .capacity) .1 (g .head .capacity) in (
-        within-range 0 (kindNumber object) 2 .1 (omega (arith, kind-range object)),
+        within-range 1 (f .head .version) 2 .1 (g .head .version),
         (
-          within-range 1 _ 16 .1 (g .head .n),
+          within-range 0 (kindNumber object) 2 .1 (omega (arith, kind-range object)),
           (
-            within-range 1 _ 255 .1 (g .head .h),
-            (rw number-of-kind (within-range _ _ _ .1 (least, most)), tt),
+            within-range 1 _ 16 .1 (g .head .n),
+            (
+              within-range 1 _ 255 .1 (g .head .h),
+              (rw number-of-kind (within-range _ _ _ .1 (least, most)), (le-leb _ _ (method-most (f .head .version) (f .head .method) (g .head .method)), tt)),
+            ),
           ),
         ),
       )
@@ -98,7 +111,7 @@ module _ (f : Fields) (g : InRange f) where
   given-whole =
       let bs = givenFrom f .requests in
       let g = givenFrom f in
-      rw (rules-pass (numberRules (g .object) (g .n) (g .h) (g .capacity)) bs numbers, rules-pass (countRules (g .n) (g .counts)) bs counts, rules-pass (sizeRules (total (g .counts)) (length bs)) bs sizes, number-of-kind, requests-read, rules-pass (entryRules (g .n) (g .schedule)) [] entries, flat-dealt)
+      rw (rules-pass (numberRules (g .version) (g .object) (g .n) (g .h) (g .capacity) (g .method)) bs numbers, rules-pass (countRules (g .n) (g .counts)) bs counts, rules-pass (sizeRules (total (g .counts)) (length bs)) bs sizes, number-of-kind, number-of-method, requests-read, rules-pass (entryRules (g .n) (g .schedule)) [] entries, flat-dealt)
 
   -- and their bytes are what is written, where there is room
   pub written-whole : (room : ℕ) → writeOf (givenFrom f) room ≡ fitted room (bytesOf f)

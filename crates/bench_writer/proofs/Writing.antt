@@ -8,21 +8,26 @@ use mathlib.Core.Path.{_≡_, refl, sym, ap, _∙_}
 use mathlib.Core.List.{List, [], _∷_, _++_, append-nil}
 use lib.ListN.{length, take, drop, length-append, length-take, length-drop, drop-of-length-le}
 use lib.Seq.{length-take-le, take-at}
+use lib.Dec.{eqb}
 use borrow.Author.Tests.{leb-true, ltb-true, le-leb, lt-leb}
 use Rattle.object.specs.declared.Kind.{Kind}
 use Rattle.object.specs.declared.Request.{Request}
 use Rattle.object.specs.Paper.{kindOf}
 use Rattle.object.proofs.Inverse.{kind-of-number}
+use Rattle.machine.specs.declared.Method.the-variants.{CcSynch}
+use Rattle.machine.specs.Methods.{methodOf}
 use Rattle.bench_file.specs.Reading.{Outcome, refused, read, after, rules, several}
 use Rattle.bench_file.specs.Layout.{Fields, Judgement, accepted, refusedBy, judged, judgeOf, requestReader}
 use Rattle.object.specs.Each.{Each, sumOf}
 use Rattle.bench_file.specs.Bytes.{requestBytes, eachBytes, rowBytes, bytesOf, Byte, RequestInRange, RowInRange, CapacityInRange, InRange}
-use Rattle.bench_writer.specs.Writer.{Given, total, dealt, interleaved, rawBytes, numberRules, countRules, sizeRules, entryRules, requestsReader, givenReader, givenOf, Writing, fitted, writtenAs, writeOf, WritesAs}
+use Rattle.bench_writer.specs.Writer.{Given, total, dealt, interleaved, rawBytes, mostMethod, numberRules, countRules, sizeRules, entryRules, requestsReader, givenReader, givenOf, Writing, fitted, writtenAs, writeOf, WritesAs}
 use Rattle.bench_writer.specs.declared.Written.{Written}
+use Rattle.object.proofs.Choice.{either}
 use Rattle.object.proofs.Each.{each-take, each-drop, each-map, every-each}
 use Rattle.object.proofs.Within.{within-range}
 use Rattle.bench_file.proofs.Each.{eachBytes-length, eachBytes-take, eachBytes-drop}
 use Rattle.bench_file.proofs.Codec.{came, several-codec}
+use Rattle.bench_file.proofs.Methods.{method-of-number}
 use Rattle.bench_file.proofs.Size.{request-length}
 use Rattle.bench_file.proofs.Numbered.{Numbered, done-numbered, after-numbered, several-numbered, request-numbered}
 use Rattle.bench_writer.proofs.Rules.{rules-kept, rules-numbered}
@@ -63,17 +68,19 @@ all-read bs l left e h =
 -- the fields that the writer takes, from the requests that it read
 abbrev takenFields : Given → List Request → Fields
 takenFields g requests = record {
-  head = record { object = kindOf (g .object); n = g .n; h = g .h; capacity = g .capacity };
+  head = record { version = g .version; object = kindOf (g .object); n = g .n; h = g .h; capacity = g .capacity; method = methodOf (g .method) };
   rows = dealt (g .counts) requests;
   schedule = g .schedule;
 }
 
 -- what is known of fields that the writer was given and takes
 record Taken (g : Given) (f : Fields) : Type 0 where
+  version : (1 ≤ g .version) × (g .version ≤ 2)
   object : g .object ≤ 2
   n : (1 ≤ g .n) × (g .n ≤ 16)
   h : (1 ≤ g .h) × (g .h ≤ 255)
   capacity : CapacityInRange (kindOf (g .object)) (g .capacity)
+  method : g .method ≤ mostMethod (g .version)
   threads : length (g .counts) ≡ g .n
   counts : Each (λ count. count ≤ 16) (g .counts)
   requests : List Request
@@ -90,21 +97,23 @@ taken g f p e =
     let bs = g .requests in
     let object = kindOf (g .object) in
     let (rest, r) = judged-came (givenReader g bs) f e in
-    let (u1, bs1, e1, r1) = came (rules (numberRules (g .object) (g .n) (g .h) (g .capacity)) bs) _ r in
+    let (u1, bs1, e1, r1) = came (rules (numberRules (g .version) (g .object) (g .n) (g .h) (g .capacity) (g .method)) bs) _ r in
     let (u2, bs2, e2, r2) = came (rules (countRules (g .n) (g .counts)) bs1) _ r1 in
     let (l, left, e3, r3) = came (requestsReader object (total (g .counts)) bs bs2) _ r2 in
     let (u4, bs4, e4, r4) = came (rules (sizeRules (total (g .counts)) (length bs)) bs2) _ e3 in
     let (u5, bs5, e5, r5) = came (rules (entryRules (g .n) (g .schedule)) left) _ r3 in
-    let ((t4, (t5, (t6, (t7, t)))), q1) = rules-kept (numberRules (g .object) (g .n) (g .h) (g .capacity)) bs e1 in
+    let ((t3, (t4, (t5, (t6, (t7, (t15, t)))))), q1) = rules-kept (numberRules (g .version) (g .object) (g .n) (g .h) (g .capacity) (g .method)) bs e1 in
     let ((t1, (t12, (t8, u))), q2) = rules-kept (countRules (g .n) (g .counts)) bs1 e2 in
     let ((s1, (s12, s)), q4) = rules-kept (sizeRules (total (g .counts)) (length bs)) bs2 e4 in
     let (ts, q5) = rules-kept (entryRules (g .n) (g .schedule)) left e5 in
     let (k, q) = several-codec (request-codec object) (total (g .counts)) .back bs l left p (ap (several (total (g .counts)) (requestReader object)) (q1 ∙ q2 ∙ q4) ∙ r4) in
     record {
+      version = within-range _ _ _ .0 t3;
       object = within-range 0 (g .object) 2 .0 t4 .1;
       n = within-range _ _ _ .0 t5;
       h = within-range _ _ _ .0 t6;
       capacity = capacity-range object (g .capacity) .0 (within-range _ _ _ .0 t7);
+      method = leb-true _ _ t15;
       threads = le-antisymm (leb-true _ _ t12) (leb-true _ _ t1);
       counts = each-map (λ c t. leb-true _ _ t) (g .counts) (every-each _ (g .counts) t8);
       requests = l;
@@ -116,10 +125,20 @@ taken g f p e =
       fields = cc;
     }
 
+-- a method that its version has is one of the two, and in version 1 the first
+method-known : (version method : ℕ) → method ≤ mostMethod version → method ≤ 1
+method-known version method = either (λ most. method ≤ most → method ≤ 1) (eqb version 1) (λ e h. omega arith) (λ e h. h)
+
+method-first : (version method : ℕ) → method ≤ mostMethod version → version ≡ 1 → methodOf method ≡ CcSynch
+method-first version method h e =
+    let none : method ≤ 0 = rw e at h in
+    let zero : method ≡ 0 = omega arith in
+    rw zero
+
 module _ (g : Given) (f : Fields) where
   taken-range : Taken g f → InRange f
   taken-range t = rw (t .fields) (record {
-    head = record { n = t .n; h = t .h; capacity = t .capacity };
+    head = record { version = t .version; n = t .n; h = t .h; capacity = t .capacity; method = method-first (g .version) (g .method) (t .method) };
     threads = dealt-length (g .counts) (t .requests) ∙ t .threads;
     rows = dealt-range (kindOf (g .object)) (g .counts) (t .requests) (t .counts) (t .known);
     entries = t .entries;
@@ -129,7 +148,7 @@ module _ (g : Given) (f : Fields) where
   -- the rows go into the file as they are given, a count before each thread's
   taken-bytes : Taken g f → bytesOf f ≡ rawBytes g
   unfolding bytesOf rawBytes
-  taken-bytes t = rw (t .fields, t .whole, dealt-rows (g .counts) (t .requests) (t .number), kind-of-number (g .object) (t .object))
+  taken-bytes t = rw (t .fields, t .whole, dealt-rows (g .counts) (t .requests) (t .number), kind-of-number (g .object) (t .object), method-of-number (g .method) (method-known (g .version) (g .method) (t .method)))
 
   pub given-in-range : Each Byte (g .requests) → givenOf g ≡ accepted f → InRange f
   given-in-range p e = taken-range (taken g f p e)
@@ -165,7 +184,7 @@ takes g f rest p e =
 given-numbered : (g : Given) → Numbered (givenReader g)
 unfolding givenReader requestsReader
 given-numbered g =
-    after-numbered (rules-numbered (numberRules (g .object) (g .n) (g .h) (g .capacity)) (omega arith)) (λ _.
+    after-numbered (rules-numbered (numberRules (g .version) (g .object) (g .n) (g .h) (g .capacity) (g .method)) (omega arith)) (λ _.
     after-numbered (rules-numbered (countRules (g .n) (g .counts)) (omega arith)) (λ _.
     after-numbered (after-numbered (rules-numbered (sizeRules (total (g .counts)) (length (g .requests))) (omega arith)) (λ _.
     several-numbered (request-numbered (kindOf (g .object))) (total (g .counts)))) (λ requests.

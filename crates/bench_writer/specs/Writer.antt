@@ -1,35 +1,40 @@
--- The writer: fields given as numbers and rows, judged in the order of document 01, and what is then written.
+-- The writer: fields given as numbers and rows, judged in the order of documents 01 and 02, and what is then written.
 use Prim.Native.Nat.{ℕ, _+_, _*_, _≤_}
 use mathlib.Core.Path.{_≡_}
 use mathlib.Core.Bool.{Bool, cond}
 use mathlib.Core.List.{List, [], _∷_, _++_, map}
 use lib.ListN.{length, take, drop}
-use lib.Dec.{leb, ltb}
+use lib.Dec.{leb, ltb, eqb}
 use Rattle.object.specs.declared.Kind.{Kind}
 use Rattle.object.specs.declared.Request.{Request}
 use Rattle.object.specs.Paper.{within, kindNumber, kindOf, leastCapacity, mostCapacity}
 use Rattle.bench_writer.specs.declared.Written.{Written}
 use Rattle.object.specs.Each.{Each, every, sumOf}
 use Rattle.bench_file.specs.Reading.{Reader, after, _>>=_, _>>_, done, rules, several}
-use Rattle.bench_file.specs.Layout.{Fields, Judgement, accepted, refusedBy, judged, judgeOf, requestReader}
-use Rattle.bench_file.specs.Bytes.{lowFirst, requestBytes, eachBytes, bytesOf, Byte}
+use Rattle.machine.specs.Methods.{methodNumber, methodOf}
+use Rattle.bench_file.specs.Layout.{Fields, versionKnown, Judgement, accepted, refusedBy, judged, judgeOf, requestReader}
+use Rattle.bench_file.specs.Bytes.{lowFirst, requestBytes, eachBytes, methodBytes, bytesOf, Byte}
 
--- what the writer is given: four numbers, the row of counts, the row of requests in the file's five-byte form, the schedule
+-- what the writer is given: six numbers, the row of counts, the row of requests in the file's five-byte form, the schedule
 pub record Given : Type 0 where
+  pub version : ℕ
   pub object : ℕ
   pub n : ℕ
   pub h : ℕ
   pub capacity : ℕ
+  pub method : ℕ
   pub counts : List ℕ
   pub requests : List ℕ
   pub schedule : List ℕ
 
-abbrev pub givenBy : ℕ → ℕ → ℕ → ℕ → List ℕ → List ℕ → List ℕ → Given
-givenBy object n h capacity counts requests schedule = record {
+abbrev pub givenBy : ℕ → ℕ → ℕ → ℕ → ℕ → ℕ → List ℕ → List ℕ → List ℕ → Given
+givenBy version object n h capacity method counts requests schedule = record {
+  version = version;
   object = object;
   n = n;
   h = h;
   capacity = capacity;
+  method = method;
   counts = counts;
   requests = requests;
   schedule = schedule;
@@ -49,21 +54,31 @@ unfoldable pub interleaved : List ℕ → List ℕ → List ℕ
 interleaved [] requests = []
 interleaved (count ∷ counts) requests = count ∷ take (5 * count) requests ++ interleaved counts (drop (5 * count) requests)
 
--- the file's bytes straight from what is given, for the code to lay out
+-- the head's bytes, and the whole file's, straight from what is given, for the code to lay out
+abbrev pub rawHead : ℕ → ℕ → ℕ → ℕ → ℕ → ℕ → List ℕ
+rawHead version object n h capacity method =
+    (0x43 ∷ 0x43 ∷ 0x53 ∷ []) ++ lowFirst 2 version ++ (object ∷ n ∷ h ∷ capacity ∷ methodBytes version method)
+
 unfoldable pub rawBytes : Given → List ℕ
 rawBytes g =
-    (0x43 ∷ 0x43 ∷ 0x53 ∷ 1 ∷ 0 ∷ g .object ∷ g .n ∷ g .h ∷ g .capacity ∷ [])
+    rawHead (g .version) (g .object) (g .n) (g .h) (g .capacity) (g .method)
     ++ interleaved (g .counts) (g .requests)
     ++ lowFirst 2 (length (g .schedule))
     ++ g .schedule
 
--- object, n, h and the capacity
-abbrev pub numberRules : ℕ → ℕ → ℕ → ℕ → List (ℕ × Bool)
-numberRules object n h capacity =
-    (4, within 0 object 2)
+-- a method's greatest number: version 1 has method 0 only
+abbrev pub mostMethod : ℕ → ℕ
+mostMethod version = cond (eqb version 1) 0 1
+
+-- version, object, n, h, the capacity and the method
+abbrev pub numberRules : ℕ → ℕ → ℕ → ℕ → ℕ → ℕ → List (ℕ × Bool)
+numberRules version object n h capacity method =
+    (3, versionKnown version)
+    ∷ (4, within 0 object 2)
     ∷ (5, within 1 n 16)
     ∷ (6, within 1 h 255)
     ∷ (7, within (leastCapacity (kindOf object)) capacity (mostCapacity (kindOf object)))
+    ∷ (15, leb method (mostMethod version))
     ∷ []
 
 -- a row of fewer than n counts, or of more; each count
@@ -88,12 +103,12 @@ requestsReader object count requests = do
 -- the rules in their order; the requests are read from their row
 unfoldable pub givenReader : Given → Reader Fields
 givenReader g = do
-  rules (numberRules (g .object) (g .n) (g .h) (g .capacity))
+  rules (numberRules (g .version) (g .object) (g .n) (g .h) (g .capacity) (g .method))
   rules (countRules (g .n) (g .counts))
   requests ← requestsReader (kindOf (g .object)) (total (g .counts)) (g .requests)
   rules (entryRules (g .n) (g .schedule))
   done (record {
-    head = record { object = kindOf (g .object); n = g .n; h = g .h; capacity = g .capacity };
+    head = record { version = g .version; object = kindOf (g .object); n = g .n; h = g .h; capacity = g .capacity; method = methodOf (g .method) };
     rows = dealt (g .counts) requests;
     schedule = g .schedule;
   })
@@ -105,7 +120,8 @@ givenOf g = judged (givenReader g (g .requests))
 -- given fields, as the writer takes them
 abbrev pub givenFrom : Fields → Given
 givenFrom f =
-    givenBy (kindNumber (f .head .object)) (f .head .n) (f .head .h) (f .head .capacity) (map length (f .rows))
+    givenBy (f .head .version) (kindNumber (f .head .object)) (f .head .n) (f .head .h) (f .head .capacity) (methodNumber (f .head .method))
+    (map length (f .rows))
     (eachBytes (eachBytes requestBytes) (f .rows))
     (f .schedule)
 

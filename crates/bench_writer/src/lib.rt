@@ -1,9 +1,9 @@
-// Writes a bench file of version 1 from its fields.
+// Writes a bench file of version 1 or 2 from its fields.
 use bench_file::Reached;
 use object::Kind;
 ghost use mathlib.Core.Path.{_≡_};
 ghost use Prim.Native.Nat.{ℕ, _+_, _*_, _≤_};
-ghost use mathlib.Core.List.{List, _∷_, []};
+ghost use mathlib.Core.List.{List, _∷_};
 ghost use lib.ListN.{length};
 ghost use lib.Dec.{ltb};
 ghost use Rattle.object.specs.Each.{every};
@@ -11,7 +11,7 @@ ghost use Rattle.bench_file.specs.Layout.{headLength};
 ghost use Rattle.bench_file.specs.Bytes.{lowFirst};
 ghost use Rattle.bench_file.specs.Reading.{rules};
 ghost use Rattle.bench_file.specs.Cursor.{numberRead, forgotten, numbered};
-ghost use Rattle.bench_writer.specs.Writer.{total, numberRules, countRules, requestsReader, entryRules, interleaved, rawBytes, pasted, givenBy, givenReader, WritesAs};
+ghost use Rattle.bench_writer.specs.Writer.{total, mostMethod, numberRules, countRules, requestsReader, entryRules, interleaved, rawHead, rawBytes, pasted, givenBy, givenReader, WritesAs};
 
 // The refusal, 0 for none, and how many bytes were written.
 pub struct Written {
@@ -19,10 +19,23 @@ pub struct Written {
     pub length: usize,
 }
 
-// Object, n, h and capacity: 0, or the refusal.
-fn judge_numbers(object: u8, n: u8, h: u8, capacity: u8) -> u8
-    ensures { λ r. ⌜ ((bytes : List ℕ) → numberRead bytes 0 r ≡ rules (numberRules object n h capacity) bytes) ⌝ }
+// A method's greatest number: version 1 has method 0 only.
+fn most_method(version: u16) -> u8
+    ensures { λ r. ⌜ r ≡ mostMethod version ⌝ }
 {
+    if version == 1 {
+        return 0;
+    }
+    1
+}
+
+// Version, object, n, h, capacity and method: 0, or the refusal.
+fn judge_numbers(version: u16, object: u8, n: u8, h: u8, capacity: u8, method: u8) -> u8
+    ensures { λ r. ⌜ ((bytes : List ℕ) → numberRead bytes 0 r ≡ rules (numberRules version object n h capacity method) bytes) ⌝ }
+{
+    if !bench_file::version_known(version) {
+        return 3;
+    }
     if !object::between(0, object, 2) {
         return 4;
     }
@@ -34,6 +47,9 @@ fn judge_numbers(object: u8, n: u8, h: u8, capacity: u8) -> u8
     }
     if !object::capacity_allowed(object::kind_of(object), capacity) {
         return 7;
+    }
+    if most_method(version) < method {
+        return 15;
     }
     0
 }
@@ -115,17 +131,19 @@ fn judge_entries(n: u8, schedule: &[u8]) -> u8
 
 // All rules but the last, 13, in their order: 0, or the refusal.
 fn judge_given(
+    version: u16,
     object: u8,
     n: u8,
     h: u8,
     capacity: u8,
+    method: u8,
     counts: &[u8],
     requests: &[u8],
     schedule: &[u8],
 ) -> u8
-    ensures { λ r. ⌜ numbered r ≡ forgotten (givenReader (givenBy object n h capacity (now (counts .entry)) (now (requests .entry)) (now (schedule .entry))) (now (requests .entry))) ⌝ }
+    ensures { λ r. ⌜ numbered r ≡ forgotten (givenReader (givenBy version object n h capacity method (now (counts .entry)) (now (requests .entry)) (now (schedule .entry))) (now (requests .entry))) ⌝ }
 {
-    let numbers = judge_numbers(object, n, h, capacity);
+    let numbers = judge_numbers(version, object, n, h, capacity, method);
     if numbers != 0 {
         return numbers;
     }
@@ -149,12 +167,22 @@ fn put(out: &mut [u8], at: usize, src: &[u8])
     bytes::copy(src, &mut out[at..]);
 }
 
-// Bytes 0 to 8.
-fn put_head(out: &mut [u8], object: u8, n: u8, h: u8, capacity: u8)
-    requires { ⌜ headLength ≤ length (now out) ⌝ }
-    ensures { λ _. ⌜ now (out .exit) ≡ pasted (now (out .entry)) 0 (0x43 ∷ 0x43 ∷ 0x53 ∷ 1 ∷ 0 ∷ object ∷ n ∷ h ∷ capacity ∷ []) ⌝ }
+// All bytes before the rows; the method's from version 2 on.
+fn put_head(out: &mut [u8], version: u16, object: u8, n: u8, h: u8, capacity: u8, method: u8)
+    requires { ⌜ headLength version ≤ length (now out) ⌝ }
+    ensures { λ _. ⌜ now (out .exit) ≡ pasted (now (out .entry)) 0 (rawHead version object n h capacity method) ⌝ }
 {
-    put(out, 0, &[0x43, 0x43, 0x53, 1, 0, object, n, h, capacity]);
+    let low = (version % 256) as u8;
+    let high = (version / 256 % 256) as u8;
+    put(
+        out,
+        0,
+        &[0x43, 0x43, 0x53, low, high, object, n, h, capacity],
+    );
+    if version == 1 {
+        return;
+    }
+    put(out, 9, &[method]);
 }
 
 // The schedule's length, two bytes.
@@ -201,47 +229,76 @@ fn put_rows(out: &mut [u8], at: usize, counts: &[u8], requests: &[u8]) -> usize
 // The whole file, from the buffer's first byte on.
 fn put_file(
     out: &mut [u8],
+    version: u16,
     object: u8,
     n: u8,
     h: u8,
     capacity: u8,
+    method: u8,
     counts: &[u8],
     requests: &[u8],
     schedule: &[u8],
 )
-    requires { ⌜ (5 * total (now counts) ≤ length (now requests)) × (length (rawBytes (givenBy object n h capacity (now counts) (now requests) (now schedule))) ≤ length (now out)) ⌝ }
-    ensures { λ _. ⌜ now (out .exit) ≡ pasted (now (out .entry)) 0 (rawBytes (givenBy object n h capacity (now (counts .entry)) (now (requests .entry)) (now (schedule .entry)))) ⌝ }
+    requires { ⌜ (5 * total (now counts) ≤ length (now requests)) × (length (rawBytes (givenBy version object n h capacity method (now counts) (now requests) (now schedule))) ≤ length (now out)) ⌝ }
+    ensures { λ _. ⌜ now (out .exit) ≡ pasted (now (out .entry)) 0 (rawBytes (givenBy version object n h capacity method (now (counts .entry)) (now (requests .entry)) (now (schedule .entry)))) ⌝ }
 {
-    put_head(out, object, n, h, capacity);
-    let next = put_rows(out, bench_file::HEAD_BYTES, counts, requests);
+    put_head(out, version, object, n, h, capacity, method);
+    let next = put_rows(out, bench_file::head_bytes(version), counts, requests);
     put_length(out, next, schedule.len());
     put(out, next + 2, schedule);
 }
 
 // Writes the bench file of given fields into a lent buffer, or refuses and leaves the buffer as it was.
 pub fn write(
+    version: u16,
     object: u8,
     n: u8,
     h: u8,
     capacity: u8,
+    method: u8,
     counts: &[u8],
     requests: &[u8],
     schedule: &[u8],
     out: &mut [u8],
 ) -> Written
-    ensures { λ r. ⌜ WritesAs (givenBy object n h capacity (now (counts .entry)) (now (requests .entry)) (now (schedule .entry))) r (now (out .entry)) (now (out .exit)) ⌝ }
+    ensures { λ r. ⌜ WritesAs (givenBy version object n h capacity method (now (counts .entry)) (now (requests .entry)) (now (schedule .entry))) r (now (out .entry)) (now (out .exit)) ⌝ }
 {
-    let refusal = judge_given(object, n, h, capacity, counts, requests, schedule);
+    let refusal = judge_given(
+        version,
+        object,
+        n,
+        h,
+        capacity,
+        method,
+        counts,
+        requests,
+        schedule,
+    );
     if refusal != 0 {
         return Written { refusal, length: 0 };
     }
-    let length = bench_file::HEAD_BYTES + counts.len() + requests.len() + 2 + schedule.len();
+    let length = bench_file::head_bytes(version)
+        + counts.len()
+        + requests.len()
+        + 2
+        + schedule.len();
     if out.len() < length {
         return Written {
             refusal: 13,
             length: 0,
         };
     }
-    put_file(out, object, n, h, capacity, counts, requests, schedule);
+    put_file(
+        out,
+        version,
+        object,
+        n,
+        h,
+        capacity,
+        method,
+        counts,
+        requests,
+        schedule,
+    );
     Written { refusal: 0, length }
 }

@@ -23,7 +23,7 @@ given c = c .before .before .before .before
 abbrev row : tie.After-judge-numbers → List ℕ
 row c = given c .args .requests .now
 
-numbers : (c : tie.Else1) → let a = given (c .before) .args in rules (numberRules (a .object) (a .n) (a .h) (a .capacity)) (row (c .before)) ≡ read tt (row (c .before))
+numbers : (c : tie.Else1) → let a = given (c .before) .args in rules (numberRules (a .version) (a .object) (a .n) (a .h) (a .capacity) (a .method)) (row (c .before)) ≡ read tt (row (c .before))
 numbers c = went-on (row (c .before)) 0 (c .before .judge-numbers .ensures (row (c .before))) (c .if1 .left)
 
 counts : (c : tie.Else2) → let d = c .before .before .before in let a = given d .args in rules (countRules (a .n) (a .counts .now)) (row d) ≡ read tt (row d)
@@ -55,7 +55,7 @@ returns-2 c =
 total-of-requires : tie.Need-total-of-requires
 total-of-requires c κs =
     let a = given (c .before .before .before) .args in
-    let n = rules-kept (numberRules (a .object) (a .n) (a .h) (a .capacity)) _ (numbers (c .before .before)) .0 .1 .0 in
+    let n = rules-kept (numberRules (a .version) (a .object) (a .n) (a .h) (a .capacity) (a .method)) _ (numbers (c .before .before)) .0 .1 .1 .0 in
     let long = rules-kept (countRules (a .n) (a .counts .now)) _ (counts c) .0 .1 .0 in
     omega (arith, within-range 1 (a .n) 16 .0 n, leb-true (length (a .counts .now)) (a .n) long)
 
@@ -80,7 +80,7 @@ last-judged : (c : tie.After-judge-entries) (requests : List Request) (rest : Li
     → let d = c .before .before .before .before .before .before .before .before in
     let a = given d .args in
     numbered (c .judge-entries .result)
-    ≡ forgotten (givenReader (givenBy (a .object) (a .n) (a .h) (a .capacity) (a .counts .now) (a .requests .now) (a .schedule .now)) (row d))
+    ≡ forgotten (givenReader (givenBy (a .version) (a .object) (a .n) (a .h) (a .capacity) (a .method) (a .counts .now) (a .requests .now) (a .schedule .now)) (row d))
 unfolding givenReader
 last-judged c requests rest q =
     let k = c .before .before .before in
