@@ -1,13 +1,9 @@
 -- The rows of the printed lines, as a list: they have document 01's accesses, and an entry is what these make it; the node behind is out of it; and the numbers that
--- name no line.
--- Assumes nothing.
-use Prim.Native.Nat.{ℕ, zero, suc, _+_, _≤_, _<_}
-use native.Mathlib.Omega.{arith}
-use native.Mathlib.Numerals.{unary-clauses}
-use mathlib.Core.Path.{_≡_, refl, sym}
+-- name no line. Assumes nothing.
+use Prim.Native.Nat.{ℕ}
+use mathlib.Core.Path.{_≡_, refl}
 use mathlib.Core.Bool.{Bool}
 use mathlib.Core.List.{List, [], _∷_, map}
-use lib.ListN.{getD, List·getD-map, List·getD-eq-default}
 use Rattle.machine.specs.declared.NodeId.{NodeId}
 use Rattle.machine.specs.declared.Node.{Node}
 use Rattle.machine.specs.declared.Thread.{Thread}
@@ -17,14 +13,11 @@ use Rattle.machine.specs.declared.Row.{Row}
 use Rattle.machine.specs.Accesses.{accessesOf, writtenOf}
 use Rattle.machine.specs.Events.{sameEvent, eventFound}
 use Rattle.machine.specs.Lines.{upFrom, beside}
+use Rattle.machine.proofs.NoLine.{NoneBelow, none-left}
 use Rattle.machine.proofs.Rows.{readsField, writesField, swapsTail}
-use Rattle.cc_lines.specs.Lines.{Line, L0, printed, lineOf, printedLine, rowOf, accessesBy, eventIn}
+use Rattle.cc_lines.specs.Lines.{Line, L0, printed, lineOf, rowOf, accessesBy, eventIn}
 use Rattle.cc_lines.specs.Said.{sharedAccesses, saidEvents}
 use Rattle.cc_lines.proofs.Numbers.{agree}
-
--- place k of the table holds printed line k + 1
-pub printed-at : (k : ℕ) → getD (map printedLine printed) k (printedLine L0) ≡ printedLine (lineOf (k + 1))
-printed-at k = simp unary-clauses (List·getD-map printedLine printed k L0)
 
 -- lines 1 to 21 make the accesses that document 01's table has beside their numbers, and no others
 pub as-tabled : (th : Thread) → map (accessesBy th) printed ≡ map (λ k. beside [] k (sharedAccesses th)) (upFrom 1 21)
@@ -58,23 +51,6 @@ byAccess row = readsField Req row ∷ writesField Ret row ∷ readsField Ret row
 pub used : (k : ℕ) → byEvent (rowOf (lineOf k)) ≡ byAccess (rowOf (lineOf k))
 used k = agree (λ l. byEvent (rowOf l)) (λ l. byAccess (rowOf l)) refl refl (lineOf k)
 
--- none of the numbers below k
-abbrev pub NoneBelow : ℕ → ℕ → Type 0
-NoneBelow zero n = Unit
-NoneBelow (suc k) n = NoneBelow k n × (n ≡ k → ⊥)
-
-past : (k n : ℕ) → NoneBelow k n → k ≤ n
-past zero n r = omega arith
-past (suc k) n r =
-    let below : k ≤ n = past k n (r .0) in
-    let other : n ≡ k → ⊥ = r .1 in
-    omega arith
-
--- past 21 there is no line
-pub no-line-above : (n : ℕ) → 21 < n → L0 ≡ lineOf n
-no-line-above zero h = absurd (omega arith)
-no-line-above (suc k) h = sym (List·getD-eq-default printed L0 {n = k} (omega arith))
-
--- nor among what is left when 0 to 21 are taken out
+-- past 21 there is no line, nor among what is left when 0 to 21 are taken out
 pub no-line : (n : ℕ) → NoneBelow 22 n → L0 ≡ lineOf n
-no-line n r = no-line-above n (past 22 n r)
+no-line = none-left L0 (L0 ∷ printed)

@@ -1,8 +1,7 @@
 // The 21 printed lines of CC-Synch, Algorithm 1 of source 004: the table of their accesses and the line that follows each.
 ghost use Prim.Native.Nat.{_+_, _<_};
 ghost use mathlib.Core.Path.{_≡_};
-ghost use mathlib.Core.List.{_∷_, map};
-ghost use Rattle.cc_lines.specs.Lines.{L0, printed, lineOf, printedLine, rowOf, following};
+ghost use Rattle.cc_lines.specs.Lines.{lineOf, printedLine, rowOf, following};
 use machine::Event::*;
 use machine::Field::*;
 use machine::Node;
@@ -93,17 +92,4 @@ pub fn row_of(line: u8) -> Row
     }
     let place = (line - 1) as usize;
     machine::row_from(printed_line(place))
-}
-
-// The rows of all lines in one array, the blank's at 0, made once for a run.
-pub fn all_rows() -> [Row; 22]
-    ensures { λ r. ⌜ r ≡ map rowOf (L0 ∷ printed) ⌝ }
-{
-    let mut rows = [row_of(0); 22];
-    let mut line = 0u8;
-    while line < 22 {
-        rows[line as usize] = row_of(line);
-        line += 1;
-    }
-    rows
 }

@@ -1,3 +1,4 @@
 pub mod Follows
 pub mod Numbers
+pub mod Rows
 pub mod Table

@@ -2,9 +2,9 @@
 use Prim.Native.Nat.{ℕ, _≤_}
 use native.Mathlib.Omega.{arith}
 use mathlib.Core.Path.{_≡_, refl}
-use mathlib.Core.List.{_∷_}
+use mathlib.Core.List.{_∷_, map}
 use Rattle.object.specs.Each.{Each}
-use Rattle.machine.proofs.Lines.{number-at, each-of, by-number}
+use Rattle.machine.proofs.Lines.{number-at, each-of, agree-on, by-number}
 use Rattle.dsm_lines.specs.Lines.{Line, printed, lineOf, number, L0, L1, L2, L3, L4, L5, L6, L7, L8, L9, L10, L11, L12, L13, L14, L15, L16, L17, L18, L19, L20, L21, L22, L23, L24, L25, L26, L27, L28}
 
 pub number-of : (k : ℕ) → k ≤ 28 → number (lineOf k) ≡ k
@@ -48,6 +48,10 @@ each-line P each = each-of number L0 (L0 ∷ printed) line-at P each (each .0)
 
 pub number-most : (l : Line) → number l ≤ 28
 number-most = each-line (λ (l : Line). number l ≤ 28) (omega arith)
+
+-- two functions of a line that give the same list of all lines agree on every line
+pub agree : {A : Type 0} (f g : Line → A) → map f (L0 ∷ printed) ≡ map g (L0 ∷ printed) → f L0 ≡ g L0 → (l : Line) → f l ≡ g l
+agree = agree-on number L0 (L0 ∷ printed) line-at
 
 -- a line whose number is known
 pub by-line : (P : Line → Type 0) (l : Line) {k : ℕ} → number l ≡ k → P (lineOf k) → P l

@@ -1,8 +1,49 @@
-// The 28 printed lines of DSM-Synch, Algorithm 2 of source 004: the line that follows each.
+// The 28 printed lines of DSM-Synch, Algorithm 2 of source 004: the table of their accesses and the line that follows each.
+ghost use Prim.Native.Nat.{_+_, _<_};
 ghost use mathlib.Core.Path.{_≡_};
 ghost use Rattle.dsm_lines.specs.Lines.{lineOf, following};
+ghost use Rattle.dsm_lines.specs.Rows.{printedLine, rowOf};
+use machine::Event::*;
+use machine::Field::*;
 use machine::Node;
 use machine::NodeId;
+use machine::Pointer::*;
+use machine::PrintedLine;
+use machine::PrintedLine::*;
+use machine::Row;
+use machine::SharedAccess::*;
+
+// The printed lines, 1 to 28. A line without access has myNode or tmpNode, and leaves it.
+const LINES: [PrintedLine; 28] = [
+    Local(My, CallBegins), // 1. toggle = 1 - toggle
+    Local(My, Other), // 2. myNode = MyNodes[toggle]
+    One(My, Write(Wait), Other), // 3. myNode→wait = TRUE
+    One(My, Write(Completed), Other), // 4. myNode→completed = FALSE
+    One(My, Write(Next), Other), // 5. myNode→next = null
+    One(My, Write(Req), Other), // 6. myNode→req = req
+    One(My, Swap, Swaps), // 7. myPredNode = Swap(Tail, myNode)
+    Local(My, Other), // 8. if (myPredNode ≠ null) {
+    One(Pred, Write(Next), Other), // 9.   myPredNode→next = myNode
+    One(My, Read(Wait), Spins), // 10.   while (myNode→wait == TRUE) nop
+    One(My, Read(Completed), Other), // 11.   if (myNode→completed == TRUE)
+    One(My, Read(Ret), Returns), // 12.     return myNode→ret }
+    Local(My, TurnBegins), // 13. tmpNode = myNode
+    Local(Tmp, Other), // 14. while (TRUE) {
+    Local(Tmp, Other), // 15.   counter++
+    Two(Tmp, Read(Req), Write(Ret), Applies), // 16.   apply tmpNode→req, store the return value to tmpNode→ret
+    One(Tmp, Write(Completed), Other), // 17.   tmpNode→completed = TRUE
+    One(Tmp, Write(Wait), Other), // 18.   tmpNode→wait = FALSE
+    Three(Tmp, Read(Next), Read(Next), ReadBehind(Next), Other), // 19.   if (tmpNode→next == null or tmpNode→next→next == null or counter ≥ h)
+    Local(Tmp, Other), // 20.     break
+    One(Tmp, Read(Next), Other), // 21.   tmpNode = tmpNode→next }
+    One(Tmp, Read(Next), Other), // 22. if (tmpNode→next == null) {
+    One(Tmp, Cas, TurnEnds), // 23.   if (CAS(Tail, tmpNode, null) == TRUE)
+    One(My, Read(Ret), Returns), // 24.     return myNode→ret
+    One(Tmp, Read(Next), Spins), // 25.   while (tmpNode→next == null) nop }
+    Two(Tmp, Read(Next), WriteBehind(Wait), TurnEnds), // 26. tmpNode→next→wait = FALSE
+    One(Tmp, Write(Next), Other), // 27. tmpNode→next = null
+    One(My, Read(Ret), Returns), // 28. return myNode→ret
+];
 
 // The line that follows a line, by cases, one for each printed line. `node` is the one that the line points to, `behind` the one behind it, `pred` myPredNode,
 // `emptied` says whether line 23's CAS succeeds, and `served` is the printed counter; 0 is idle.
@@ -55,4 +96,26 @@ pub fn following(
         28 => 0, // return
         _ => 0, // no line, which `dsm_synch::run_line` refuses
     }
+}
+
+// The printed line at a place of the table.
+fn printed_line(place: usize) -> PrintedLine
+    requires { ⌜ place < 28 ⌝ }
+    ensures { λ r. ⌜ r ≡ printedLine (lineOf (place + 1)) ⌝ }
+{
+    LINES[place]
+}
+
+// The row of a line, or of a blank.
+pub fn row_of(line: u8) -> Row
+    ensures { λ r. ⌜ r ≡ rowOf (lineOf line) ⌝ }
+{
+    if line == 0 {
+        return machine::row_from(Local(My, Blank));
+    }
+    if line > 28 {
+        return machine::row_from(Local(My, Blank));
+    }
+    let place = (line - 1) as usize;
+    machine::row_from(printed_line(place))
 }

@@ -1,8 +1,9 @@
 -- Laws of printed lines and their numbers, for the lines of either method: a list of them, a blank first, numbered from 0; and which one a thread runs. Assumes what
 -- the laws' premises say.
 use Prim.Native.Nat.{ℕ, zero, suc, _+_, _≤_, _<_}
+use native.Mathlib.Numerals.{unary-clauses}
 use native.Mathlib.Omega.{arith}
-use mathlib.Core.Path.{_≡_, sym, ap, subst, _∙_}
+use mathlib.Core.Path.{_≡_, refl, sym, ap, subst, _∙_}
 use mathlib.Core.List.{List, [], _∷_, map}
 use lib.ListN.{length, getD, List·getD-map}
 use borrow.Author.Tests.{ne-eqb, lt-ltb, le-ltb, lt-leb}
@@ -41,6 +42,16 @@ module _ {Line : Type 0} (number : Line → ℕ) (blank : Line) where
     -- a line whose number is known
     pub by-number : (P : Line → Type 0) (l : Line) {k : ℕ} → number l ≡ k → P (getD lines k blank) → P l
     by-number P l q p = subst P (sym (ap (λ (k : ℕ). getD lines k blank) q) ∙ line-at l) p
+
+-- place k of a table of the printed lines holds what is beside line k + 1; past the table stands `none`
+module _ {Line A : Type 0} (f : Line → A) (blank : Line) (none : A) where
+  in-table : (printed : List Line) (k : ℕ) → k < length printed → getD (map f printed) k none ≡ f (getD printed k blank)
+  in-table [] k h = absurd (omega arith)
+  in-table (l ∷ ls) zero h = refl
+  in-table (l ∷ ls) (suc k) h = in-table ls k (omega arith)
+
+  pub table-at : (printed : List Line) (k : ℕ) → k < length printed → getD (map f printed) k none ≡ f (getD (blank ∷ printed) (k + 1) blank)
+  table-at printed k h = simp unary-clauses (in-table printed k h)
 
 -- a thread that stands at line 0, or at one from 2 to the last printed, runs the one that it stands at; idle, line 1 if it has a request left, else none
 pub record RunsNext (th : Thread) (last : ℕ) : Type 0 where

@@ -2,10 +2,11 @@
 use Prim.Native.Nat.{ℕ, _+_, _-_}
 use native.Mathlib.Omega.{arith}
 use mathlib.Core.Path.{_≡_, _∙_, ap}
+use mathlib.Core.List.{_∷_}
 use borrow.Author.Needs.{needs}
 use Rattle.machine.specs.Accesses.{rowFrom}
-use Rattle.cc_lines.specs.Lines.{lineOf, rowOf}
-use Rattle.cc_lines.proofs.Table.{no-line-above}
+use Rattle.machine.proofs.NoLine.{none-above}
+use Rattle.cc_lines.specs.Lines.{L0, printed, lineOf, rowOf}
 use Rattle.cc_lines.proofs.row_of.Statement.{statement}
 use Rattle.cc_lines.proofs.row_of.Tie as tie
 
@@ -19,7 +20,7 @@ row-from-requires-2 : tie.Need-row-from-requires-2
 row-from-requires-2 c κs = search needs
 
 returns-2 : tie.Need-returns-2
-returns-2 c = c .row-from2 .ensures ∙ ap rowOf (no-line-above _ (c .before .if2 .taken))
+returns-2 c = c .row-from2 .ensures ∙ ap rowOf (none-above L0 (L0 ∷ printed) _ (c .before .if2 .taken))
 
 sub-place : tie.Need-sub-place
 sub-place c = search needs
