@@ -11,8 +11,8 @@ use Rattle.bench_file.specs.Bytes.{lowFirst, eachBytes, bytesOf}
 use Rattle.bench_file.specs.Examples.{sixtyFour, sixtyFive}
 use Rattle.machine.specs.declared.Method.the-variants.{CcSynch, DsmSynch}
 use Rattle.claims.specs.Entries.{entriesFrom, meetsNoNull, cut}
-use Rattle.claims.specs.Marked.{Marked, twoAdds, markedRuns}
-use Rattle.claims.specs.Result.{Result, refusedResult}
+use Rattle.claims.specs.Marked.{Marked, value, hasReturned, listed, served, twoAdds, markedRuns}
+use Rattle.claims.specs.Result.{Result, counted, refusedResult}
 use Rattle.dsm_claims.specs.Marked as dsm
 use Rattle.bench.specs.Run.{resultIn, enoughForRecords}
 
@@ -31,8 +31,16 @@ unfolding judgeOf fileReader headReader startReader limitsReader rowReader reque
 dsm-marked-runs = refl
 
 -- the 64-byte file in version 2: by CC-Synch as in version 1, and by DSM-Synch
-pub second-version : ran (sixtyFive CcSynch) ∷ ran (sixtyFive DsmSynch) ∷ [] ≡ ran sixtyFour ∷ ran (bytesOf dsm.twoAdds) ∷ []
-unfolding judgeOf fileReader headReader startReader limitsReader rowReader requestReader scheduleReader ruledByte byte several field littleEndian end lowFirst eachBytes bytesOf sumOf sixtyFour sixtyFive entriesFrom meetsNoNull
+pub second-version
+    : map ran (sixtyFive CcSynch ∷ sixtyFive DsmSynch ∷ [])
+    ≡ record { refusal = 0; counts = counted 2 2 0 0 3; records = served ∷ listed 0 1 value 5 0 1 0 hasReturned 21 41 ∷ [] }
+    ∷ record {
+      refusal = 0;
+      counts = counted 2 2 4 0 4;
+      records = listed 0 0 value 0 0 0 2 hasReturned 0 18 ∷ listed 0 1 value 5 0 1 2 hasReturned 19 37 ∷ [];
+    }
+    ∷ []
+unfolding judgeOf fileReader headReader startReader limitsReader rowReader requestReader scheduleReader ruledByte byte several field littleEndian end lowFirst sumOf sixtyFive entriesFrom meetsNoNull
 second-version = refl
 
 -- the 64-byte file with 31 bytes lent; with 47 whether it performs its two requests or none
