@@ -13,13 +13,13 @@ use Rattle.machine.specs.declared.Method.the-variants.{CcSynch, DsmSynch}
 use Rattle.machine.specs.Sizes.{mostCalls}
 use Rattle.state.specs.declared.Counts.{Counts}
 use Rattle.history.specs.Terms.{noThread, noTurn, noEntry, numberAt}
-use Rattle.cells.specs.Text.{text, decimal, numbered}
+use Rattle.cells.specs.Text.{numbered}
 use Rattle.cells.specs.Cells.{wordText, valueCell, orHyphen, stateWord, rowIn, recordCells}
 use Rattle.cells.proofs.Decimal.{at-most, no-longer}
 use Rattle.cells.proofs.Numbered.{numbered-most}
 use Rattle.cells.proofs.Rows.{taken, line-length}
 use Rattle.cells.proofs.Words.{in-table, mark-length, cell-length}
-use Rattle.listing.specs.Listing.{kindWord, methodWord, countWords, headLine, recordLine}
+use Rattle.listing.specs.Listing.{kindWord, methodWord, objectWords, headLine, recordLine}
 use Rattle.listing.specs.Promise.{headMost, lineMost, enoughBytes}
 
 kind-length : (kind : Kind) → length (wordText (kindWord kind)) ≤ 7
@@ -44,7 +44,7 @@ head-length head counts one-digit =
     (omega (
       arith,
       no-longer 9 0 (head .version) one-digit,
-      taken-if (eqb (head .version) 1) (wordText (methodWord (head .method))) (wordText (kindWord (head .object)) ∷ (text "n=" ++ decimal (head .n)) ∷ (text "h=" ++ decimal (head .h)) ∷ countWords counts),
+      taken-if (eqb (head .version) 1) (wordText (methodWord (head .method))) (objectWords head counts),
       method-length (head .method),
       kind-length (head .object),
       at-most 9 (head .n),

@@ -42,17 +42,14 @@ countWords counts =
     ∷ (text "remote=" ++ decimal (counts .remote))
     ∷ []
 
--- mark, version, method, object, n, h and the five counts
+-- object, n, h and the five counts
+abbrev pub objectWords : Head → Counts → List (List ℕ)
+objectWords head counts = wordText (kindWord (head .object)) ∷ (text "n=" ++ decimal (head .n)) ∷ (text "h=" ++ decimal (head .h)) ∷ countWords counts
+
+-- mark, version, method and the rest
 unfoldable pub headLine : Head → Counts → List ℕ
 headLine head counts =
-    textLine
-    (text "CCS"
-    ∷ decimal (head .version)
-    ∷ methodWords (head .version) (head .method)
-    ++ wordText (kindWord (head .object))
-    ∷ (text "n=" ++ decimal (head .n))
-    ∷ (text "h=" ++ decimal (head .h))
-    ∷ countWords counts)
+    textLine (text "CCS" ∷ decimal (head .version) ∷ (methodWords (head .version) (head .method) ++ objectWords head counts))
 
 -- the line of a record, from its order and its bytes: all its cells
 unfoldable pub recordLine : ℕ → List ℕ → List ℕ
