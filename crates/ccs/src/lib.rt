@@ -97,7 +97,18 @@ pub extern "C" fn ccs_write(
 ) -> u8
     ensures { λ r. ⌜ WritesAs (givenBy version object n h capacity method (now (counts .entry)) (now (requests .entry)) (now (schedule .entry))) (writtenIn r (now (length .exit))) (now (out .entry)) (now (out .exit)) ⌝ }
 {
-    let written = bench_writer::write(version, object, n, h, capacity, method, counts, requests, schedule, out);
+    let written = bench_writer::write(
+        version,
+        object,
+        n,
+        h,
+        capacity,
+        method,
+        counts,
+        requests,
+        schedule,
+        out,
+    );
     *length = written.length;
     written.refusal
 }

@@ -85,7 +85,7 @@ module _ (bytes old : List ℕ) {judged : Judged} (judges : Judges bytes judged)
 
   pub prints-refusal : {number : ℕ} → number ≡ resultAs (judgeOf bytes) .refusal → (number ≡ 0 → ⊥) → Prints bytes old old (refusedAs number)
   prints-refusal is some =
-      let refused = λ z. some (is ∙ z) in
+      let refused : resultAs (judgeOf bytes) .refusal ≡ 0 → ⊥ = λ z. some (is ∙ z) in
       prints
       (ap refusedAs is ∙ sym (by-refusal (pageAnswer (length old)) refusedAs (λ number. refl) (λ f met. rw met) (judgeOf bytes) refused))
       (sym (by-refusal (pageBuffer old) (λ number. old) (λ number. refl) (λ f met. rw met) (judgeOf bytes) refused))

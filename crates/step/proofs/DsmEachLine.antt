@@ -71,8 +71,8 @@ module _ (last h : ℕ) (th : Thread) where
     points-sure few x from other =
         ne-eqb (pointed th l .0) 255 (λ q.
         let below : pointed th l .0 ≤ last =
-            rw (pointed-at th l, ne-eqb (number l) 9 other) (either (λ (m : NodeId). m .0 ≤ last) (atTmp (number l))
-            (λ e. tmp-at (number l) (leb-true 14 (number l) (and-eq-true-iff _ _ .0 e .0)) f) (λ e. my-at (number l) (omega arith) f))
+        rw (pointed-at th l, ne-eqb (number l) 9 other) (either (λ (m : NodeId). m .0 ≤ last) (atTmp (number l))
+        (λ e. tmp-at (number l) (leb-true 14 (number l) (and-eq-true-iff _ _ .0 e .0)) f) (λ e. my-at (number l) (omega arith) f))
         in
         omega arith)
 
