@@ -10,9 +10,8 @@ use Rattle.object.specs.declared.Request.{Request}
 use Rattle.object.specs.Paper.{requestValue}
 use Rattle.object.specs.Each.{sumOf}
 use Rattle.object.proofs.Choice.{either}
-use Rattle.machine.specs.Methods.{methodNumber}
 use Rattle.bench_file.specs.Layout.{Fields, headLength}
-use Rattle.bench_file.specs.Bytes.{requestBytes, eachBytes, rowBytes, methodBytes, bytesOf}
+use Rattle.bench_file.specs.Bytes.{requestBytes, eachBytes, rowBytes, headFrom, bytesOf}
 use Rattle.bench_file.proofs.Each.{eachBytes-length, low-length}
 
 pub request-length : (r : Request) → length (requestBytes r) ≡ 5
@@ -28,13 +27,14 @@ method-length : (first : Bool) (number : ℕ) → 9 + length (cond first [] (num
 method-length true number = refl
 method-length false number = refl
 
-pub head-length : (version method : ℕ) → 9 + length (methodBytes version method) ≡ headLength version
-head-length version method = method-length (eqb version 1) method
+pub head-length : (version object n h capacity method : ℕ) → length (headFrom version object n h capacity method) ≡ headLength version
+head-length version object n h capacity method =
+    simp length-append (omega (arith, low-length 2 version, method-length (eqb version 1) method))
 
--- and so it has 9 bytes or 10
+-- it has 9 bytes or 10
 pub head-range : (version : ℕ) → (9 ≤ headLength version) × (headLength version ≤ 10)
 head-range version = either (λ long. (9 ≤ long) × (long ≤ 10)) (eqb version 1) (λ e. omega arith) (λ e. omega arith)
 
 pub length-bytes : (f : Fields) → length (bytesOf f) ≡ headLength (f .head .version) + 2 + length (f .rows) + 5 * sumOf length (f .rows) + length (f .schedule)
 unfolding bytesOf
-length-bytes f = simp length-append (omega (arith, head-length (f .head .version) (methodNumber (f .head .method)), rows-length (f .rows), low-length 2 (f .head .version), low-length 2 (length (f .schedule))))
+length-bytes f = rw (length-append, length-append, length-append, head-length) (omega (arith, rows-length (f .rows), low-length 2 (length (f .schedule))))

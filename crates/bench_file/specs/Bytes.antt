@@ -38,12 +38,14 @@ rowBytes row = length row ∷ eachBytes requestBytes row
 abbrev pub methodBytes : ℕ → ℕ → List ℕ
 methodBytes version method = cond (eqb version 1) [] (method ∷ [])
 
--- mark, version, object, n, h, capacity, method
+-- mark, version, object, n, h, capacity, method: from their numbers, and of a head
+abbrev pub headFrom : ℕ → ℕ → ℕ → ℕ → ℕ → ℕ → List ℕ
+headFrom version object n h capacity method =
+    (0x43 ∷ 0x43 ∷ 0x53 ∷ []) ++ lowFirst 2 version ++ (object ∷ n ∷ h ∷ capacity ∷ methodBytes version method)
+
 abbrev pub headBytes : Head → List ℕ
 headBytes head =
-    (0x43 ∷ 0x43 ∷ 0x53 ∷ [])
-    ++ lowFirst 2 (head .version)
-    ++ (kindNumber (head .object) ∷ head .n ∷ head .h ∷ head .capacity ∷ methodBytes (head .version) (methodNumber (head .method)))
+    headFrom (head .version) (kindNumber (head .object)) (head .n) (head .h) (head .capacity) (methodNumber (head .method))
 
 -- the whole file
 unfoldable pub bytesOf : Fields → List ℕ

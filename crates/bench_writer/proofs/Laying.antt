@@ -5,7 +5,7 @@ use mathlib.Core.Path.{_≡_, refl, sym, ap, _∙_}
 use mathlib.Core.List.{List, [], _∷_, _++_}
 use lib.ListN.{length, getD, take, drop, length-append, length-drop, drop-of-length-le}
 use lib.Seq.{length-take-le, drop-drop}
-use Rattle.bench_writer.specs.Writer.{Given, total, interleaved, rawHead, rawBytes, pasted}
+use Rattle.bench_writer.specs.Writer.{Given, total, interleaved, rawBytes, pasted}
 use Rattle.object.specs.Each.{sumOf}
 use Rattle.bench_file.specs.Layout.{headLength}
 use Rattle.bench_file.proofs.Each.{low-length}
@@ -83,9 +83,6 @@ module _ (counts requests : List ℕ) where
         let e : Rest i from ≡ [] = rw drop-of-length-le in
         (omega (arith, l .ahead, ap length e), sym (pasted-nothing buffer next) ∙ rw e at (l .left))
 
-pub raw-head-length : (version object n h capacity method : ℕ) → length (rawHead version object n h capacity method) ≡ headLength version
-raw-head-length version object n h capacity method = simp length-append (omega (arith, head-length version method, low-length 2 version))
-
 pub raw-length : (g : Given) → length (rawBytes g) ≡ headLength (g .version) + 2 + length (interleaved (g .counts) (g .requests)) + length (g .schedule)
 unfolding rawBytes
-raw-length g = rw (length-append, length-append, length-append, raw-head-length) (omega (arith, low-length 2 (length (g .schedule))))
+raw-length g = rw (length-append, length-append, length-append, head-length) (omega (arith, low-length 2 (length (g .schedule))))

@@ -13,7 +13,7 @@ use Rattle.object.specs.Each.{Each, every, sumOf}
 use Rattle.bench_file.specs.Reading.{Reader, after, _>>=_, _>>_, done, rules, several}
 use Rattle.machine.specs.Methods.{methodNumber, methodOf}
 use Rattle.bench_file.specs.Layout.{Fields, versionKnown, Judgement, accepted, refusedBy, judged, judgeOf, requestReader}
-use Rattle.bench_file.specs.Bytes.{lowFirst, requestBytes, eachBytes, methodBytes, bytesOf, Byte}
+use Rattle.bench_file.specs.Bytes.{lowFirst, requestBytes, eachBytes, headFrom, bytesOf, Byte}
 
 -- what the writer is given: six numbers, the row of counts, the row of requests in the file's five-byte form, the schedule
 pub record Given : Type 0 where
@@ -54,14 +54,10 @@ unfoldable pub interleaved : List ℕ → List ℕ → List ℕ
 interleaved [] requests = []
 interleaved (count ∷ counts) requests = count ∷ take (5 * count) requests ++ interleaved counts (drop (5 * count) requests)
 
--- the head's bytes, and the whole file's, straight from what is given, for the code to lay out
-abbrev pub rawHead : ℕ → ℕ → ℕ → ℕ → ℕ → ℕ → List ℕ
-rawHead version object n h capacity method =
-    (0x43 ∷ 0x43 ∷ 0x53 ∷ []) ++ lowFirst 2 version ++ (object ∷ n ∷ h ∷ capacity ∷ methodBytes version method)
-
+-- the file's bytes straight from what is given, for the code to lay out
 unfoldable pub rawBytes : Given → List ℕ
 rawBytes g =
-    rawHead (g .version) (g .object) (g .n) (g .h) (g .capacity) (g .method)
+    headFrom (g .version) (g .object) (g .n) (g .h) (g .capacity) (g .method)
     ++ interleaved (g .counts) (g .requests)
     ++ lowFirst 2 (length (g .schedule))
     ++ g .schedule

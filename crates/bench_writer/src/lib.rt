@@ -8,10 +8,10 @@ ghost use lib.ListN.{length};
 ghost use lib.Dec.{ltb};
 ghost use Rattle.object.specs.Each.{every};
 ghost use Rattle.bench_file.specs.Layout.{headLength};
-ghost use Rattle.bench_file.specs.Bytes.{lowFirst};
+ghost use Rattle.bench_file.specs.Bytes.{lowFirst, headFrom};
 ghost use Rattle.bench_file.specs.Reading.{rules};
 ghost use Rattle.bench_file.specs.Cursor.{numberRead, forgotten, numbered};
-ghost use Rattle.bench_writer.specs.Writer.{total, mostMethod, numberRules, countRules, requestsReader, entryRules, interleaved, rawHead, rawBytes, pasted, givenBy, givenReader, WritesAs};
+ghost use Rattle.bench_writer.specs.Writer.{total, mostMethod, numberRules, countRules, requestsReader, entryRules, interleaved, rawBytes, pasted, givenBy, givenReader, WritesAs};
 
 // The refusal, 0 for none, and how many bytes were written.
 pub struct Written {
@@ -170,7 +170,7 @@ fn put(out: &mut [u8], at: usize, src: &[u8])
 // All bytes before the rows; the method's from version 2 on.
 fn put_head(out: &mut [u8], version: u16, object: u8, n: u8, h: u8, capacity: u8, method: u8)
     requires { ⌜ headLength version ≤ length (now out) ⌝ }
-    ensures { λ _. ⌜ now (out .exit) ≡ pasted (now (out .entry)) 0 (rawHead version object n h capacity method) ⌝ }
+    ensures { λ _. ⌜ now (out .exit) ≡ pasted (now (out .entry)) 0 (headFrom version object n h capacity method) ⌝ }
 {
     let low = (version % 256) as u8;
     let high = (version / 256 % 256) as u8;

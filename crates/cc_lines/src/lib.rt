@@ -36,9 +36,6 @@ const LINES: [PrintedLine; 21] = [
     One(Cur, Read(Ret), Returns), // 21. return curNode→ret
 ];
 
-// The line that may spin.
-pub const SPIN_LINE: u8 = 9;
-
 // The line that follows a line, by cases, one for each printed line. The node is the one that the line points to, `served` the printed counter; 0 is idle.
 pub fn following(line: u8, node: Node, served: u8, h: u8) -> u8
     ensures { λ r. ⌜ r ≡ following node served h (lineOf line) ⌝ }

@@ -51,10 +51,13 @@ module _ (s : State) (t : ThreadId) (sound : Sound CcSynch s) (below : t .0 < s 
   few : s .n ≤ 16
   few = state-fits CcSynch s (sound .range) .small
 
+  near : target s t .0 ≤ 31
+  near = omega (arith, few, target-in-range s t (sound .shape) (sound .range) below)
+
   inside : Each (Inside (s .copies)) (accesses s t)
   inside =
       subst (λ (k : ℕ). Each (λ (a : Access). place (located a) < k) (accesses s t)) (sym (sound .shape .copies))
-      (near-of 31 (target s t) (omega (arith, few, target-in-range s t (sound .shape) (sound .range) below)) (row s t))
+      (near-of 31 (target s t) (target s t) near near (row s t))
 
   pub step-said : StepSaid s t
   step-said = record {

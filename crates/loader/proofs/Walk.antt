@@ -8,17 +8,19 @@ use mathlib.Core.List.{List, [], _∷_, _++_, append-assoc, append-nil, map, map
 use lib.ListN.{length, getD, take, drop, set, replicate, length-append, length-drop, length-map}
 use lib.Seq.{sets, length-take-le, take-suc, take-all, drop-cons, drop-drop, drop-at, getD-drop}
 use Rattle.object.specs.declared.Request.{Request}
+use Rattle.object.specs.Paper.{kindNumber}
 use Rattle.object.specs.Each.{Each}
 use Rattle.object.proofs.Each.{each-getD, each-take}
 use Rattle.bench_file.specs.declared.Head.{Head}
 use Rattle.bench_file.specs.Layout.{Fields, headLength, accepted, judgeOf}
-use Rattle.bench_file.specs.Bytes.{lowFirst, eachBytes, requestBytes, rowBytes, bytesOf, Byte, RowInRange, InRange}
+use Rattle.bench_file.specs.Bytes.{lowFirst, eachBytes, requestBytes, rowBytes, headBytes, bytesOf, Byte, RowInRange, InRange}
 use Rattle.bench_file.proofs.Each.{eachBytes-length}
-use Rattle.bench_file.proofs.Size.{request-length}
+use Rattle.bench_file.proofs.Size.{request-length, head-length}
 use Rattle.bench_file.proofs.RoundTrip.{accepted-exactly}
+use Rattle.machine.specs.Methods.{methodNumber}
 use Rattle.machine.specs.Sizes.{mostCalls}
 use Rattle.state.specs.declared.Slot.{Slot}
-use Rattle.state.specs.Fresh.{freshState}
+use Rattle.state.specs.Fresh.{freshStateBy}
 use Rattle.step.specs.Entry.{zeroSlot}
 use Rattle.claims.specs.Entries.{filled, slotsOf, rowsOf}
 use Rattle.claims.proofs.Filled.{sets-filled, set-filled}
@@ -30,9 +32,15 @@ use Rattle.loader.proofs.Decoded.{slots-decoded}
 abbrev scheduleBytes : Fields → List ℕ
 scheduleBytes f = lowFirst 2 (length (f .schedule)) ++ f .schedule
 
-behind-head : (f : Fields) → drop headLength (bytesOf f) ≡ eachBytes rowBytes (f .rows) ++ scheduleBytes f
+behind-first : (a b c d : List ℕ) (k : ℕ) → length a ≡ k → drop k (a ++ b ++ c ++ d) ≡ b ++ (c ++ d)
+behind-first a b c d k e = ap (drop k) (append-assoc (a ++ b) c d ∙ append-assoc a b (c ++ d)) ∙ drop-at a (b ++ (c ++ d)) k e
+
+behind-head : (f : Fields) → drop (headLength (f .head .version)) (bytesOf f) ≡ eachBytes rowBytes (f .rows) ++ scheduleBytes f
 unfolding bytesOf
-behind-head f = append-assoc (eachBytes rowBytes (f .rows)) (lowFirst 2 (length (f .schedule))) (f .schedule)
+behind-head f =
+    let head = f .head in
+    behind-first (headBytes head) (eachBytes rowBytes (f .rows)) (lowFirst 2 (length (f .schedule))) (f .schedule) (headLength (head .version))
+    (head-length (head .version) (kindNumber (head .object)) (head .n) (head .h) (head .capacity) (methodNumber (head .method)))
 
 rows-snoc : (rows : List (List Request)) (row : List Request) → rowsOf (rows ++ row ∷ []) ≡ rowsOf rows ++ slotsOf row
 rows-snoc [] row = append-nil (slotsOf row)
@@ -104,10 +112,10 @@ pub record Walk (bytes : List ℕ) (head : Head) (i at : ℕ) (counts : List ℕ
   pub laid : requests ≡ filled mostCalls zeroSlot (rowsOf (take i (f .rows)))
 
 pub walk-starts : (bytes : List ℕ) (head : Head) → Each Byte bytes → ((f : Fields) × (judgeOf bytes ≡ accepted f) × (f .head ≡ head))
-    → Walk bytes head 0 headLength (replicate 16 0) (replicate mostCalls zeroSlot)
+    → Walk bytes head 0 (headLength (head .version)) (replicate 16 0) (replicate mostCalls zeroSlot)
 walk-starts bytes head p (f, e, z) =
     let (fits, b) = accepted-exactly bytes f p .0 e in
-    record { f = f; judged = e; its-head = z; fits = fits; left = rw (← b) (behind-head f); counted = refl; laid = refl }
+    record { f = f; judged = e; its-head = z; fits = fits; left = rw (← b, ← z) (behind-head f); counted = refl; laid = refl }
 
 module _ {bytes : List ℕ} {head : Head} {i at : ℕ} {counts : List ℕ} {requests : List Slot} (w : Walk bytes head i at counts requests) (h : i < head .n) where
   below : i < w .f .head .n
@@ -128,7 +136,7 @@ module _ {bytes : List ℕ} {head : Head} {i at : ℕ} {counts : List ℕ} {requ
   }
 
 pub walk-ends : {bytes : List ℕ} {head : Head} {i at : ℕ} {counts : List ℕ} {requests : List Slot} → Walk bytes head i at counts requests → head .n ≤ i
-    → freshState (head .object) (head .n) (head .h) (head .capacity) counts requests ≡ loadedAs (judgeOf bytes) .state
+    → freshStateBy (head .method) (head .object) (head .n) (head .h) (head .capacity) counts requests ≡ loadedAs (judgeOf bytes) .state
 walk-ends {i = i} w h =
     let all : take i (w .f .rows) ≡ w .f .rows = take-all i (w .f .rows) (rw (w .fits .threads, w .its-head) h) in
     rw (w .judged, w .counted, w .laid, all, w .its-head)

@@ -12,7 +12,7 @@ use Rattle.state.specs.declared.Slot.{Slot}
 use Rattle.state.specs.declared.State.{State}
 use Rattle.state.specs.Fresh.{freshState}
 use Rattle.step.specs.Entry.{zeroSlot}
-use Rattle.claims.specs.Entries.{startOf}
+use Rattle.claims.specs.Entries.{startBy}
 use Rattle.loader.specs.declared.Loaded.{Loaded}
 
 -- a machine of no thread and no request: what stands for the machine of a refused file
@@ -21,7 +21,7 @@ noMachine = freshState Queue 0 0 0 (replicate 16 0) (replicate mostCalls zeroSlo
 
 -- how many requests and entries an accepted file has, and its fresh machine; a refusal has its number, and all counts 0
 abbrev pub loadedAs : Judgement → Loaded
-loadedAs (accepted f) = record { refusal = 0; requests = requestsOf f; entries = length (f .schedule); state = startOf f }
+loadedAs (accepted f) = record { refusal = 0; requests = requestsOf f; entries = length (f .schedule); state = startBy (f .head .method) f }
 loadedAs (refusedBy number) = record { refusal = number; requests = 0; entries = 0; state = noMachine }
 
 -- the request whose code and value the bytes begin with, and so many requests, one after the other

@@ -2,6 +2,7 @@
 use bench_file::Head;
 use bench_file::Judged;
 use machine::Announced;
+use machine::Method;
 use machine::Node;
 use machine::NodeId;
 use machine::RetVal;
@@ -17,7 +18,7 @@ ghost use lib.ListN.{length, drop};
 ghost use lib.Seq.{sets};
 ghost use Rattle.bench_file.specs.Layout.{Fields, accepted, judgeOf};
 ghost use Rattle.machine.specs.Sizes.{mostCalls};
-ghost use Rattle.state.specs.Fresh.{freshThread, freshThreads, freshNode, freshState};
+ghost use Rattle.state.specs.Fresh.{freshThread, freshThreads, freshNode, freshTail, freshStateBy};
 ghost use Rattle.step.specs.Entry.{zeroSlot};
 ghost use Rattle.loader.specs.Load.{requestIn, slotsIn, loadedAs};
 
@@ -85,8 +86,19 @@ fn fresh_threads(counts: [u8; 16]) -> [Thread; 16]
     threads
 }
 
+// Tail at the start.
+fn fresh_tail(method: Method) -> NodeId
+    ensures { λ r. ⌜ r ≡ freshTail method ⌝ }
+{
+    match method {
+        Method::CcSynch => NodeId(0),
+        Method::DsmSynch => NodeId(machine::NULL),
+    }
+}
+
 // The fresh machine of a head, counts and requests.
 fn fresh(
+    method: Method,
     kind: Kind,
     n: u8,
     h: u8,
@@ -94,16 +106,18 @@ fn fresh(
     counts: [u8; 16],
     requests: [Slot; machine::CALLS],
 ) -> State
-    ensures { λ r. ⌜ r ≡ freshState kind n h capacity counts requests ⌝ }
+    ensures { λ r. ⌜ r ≡ freshStateBy method kind n h capacity counts requests ⌝ }
 {
     let threads = fresh_threads(counts);
     let object = object::fresh();
+    let tail = fresh_tail(method);
     State {
+        method,
         n,
         h,
         kind,
         capacity,
-        tail: NodeId(0),
+        tail,
         threads,
         nodes: [fresh_node(); machine::NODES],
         requests,
@@ -161,10 +175,11 @@ fn machine_of(file: &[u8], head: Head) -> State
     requires { ⌜ ((f : Fields) × (judgeOf (now file) ≡ accepted f) × (f .head ≡ head)) ⌝ }
     ensures { λ r. ⌜ r ≡ loadedAs (judgeOf (now (file .entry))) .state ⌝ }
 {
+    let method = head.method;
     let kind = head.object;
     let mut counts = [0; 16];
     let mut requests = [no_request(); machine::CALLS];
-    let mut at = bench_file::HEAD_BYTES;
+    let mut at = bench_file::head_bytes(head.version);
     let mut i = 0u8;
     while i < head.n {
         let place = i as usize;
@@ -175,7 +190,15 @@ fn machine_of(file: &[u8], head: Head) -> State
         at += 1 + 5 * (count as usize);
         i += 1;
     }
-    fresh(kind, head.n, head.h, head.capacity, counts, requests)
+    fresh(
+        method,
+        kind,
+        head.n,
+        head.h,
+        head.capacity,
+        counts,
+        requests,
+    )
 }
 
 // Judges any bytes as a bench file, and makes the fresh machine of the file.
@@ -198,6 +221,7 @@ pub fn load(file: &[u8]) -> Loaded
         }
         Judged::Refused(refusal) => {
             let state = fresh(
+                Method::CcSynch,
                 Kind::Queue,
                 0,
                 0,

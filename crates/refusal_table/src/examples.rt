@@ -1,4 +1,4 @@
-// The examples of the refusal table, the file of 64 bytes, and files at a limit, each judged whole and cut at each byte.
+// The examples of the refusal table, the file of 64 bytes in both versions, and files at a limit, each judged whole and cut at each byte.
 use crate::show;
 use crate::show::cuts;
 use crate::show::first;
@@ -34,10 +34,38 @@ fn entries() {
     judged(b"32,768 entries and a byte", &most);
 }
 
+// Version 2: the method's byte stands behind the capacity, and is judged where it is read.
+fn second() {
+    cuts(b"version 0", b"CCS\0\0");
+    cuts(b"version 2, no more", b"CCS\x02\0");
+    cuts(b"version 257", b"CCS\x01\x01");
+    cuts(b"version 258", b"CCS\x02\x01");
+    cuts(b"no method", b"CCS\x02\0\x02\x01\x01\0");
+    cuts(b"method 2, rows", b"CCS\x02\0\x02\x01\x01\0\x02\0\0\0");
+    cuts(b"method 1", b"CCS\x02\0\x02\x01\x01\0\x01");
+    cuts(b"method 1, rows", b"CCS\x02\0\x02\x01\x01\0\x01\0\0\0");
+    cuts(b"method 0, rows", b"CCS\x02\0\x02\x01\x01\0\0\0\0\0");
+    cuts(b"a byte more", b"CCS\x02\0\x02\x01\x01\0\x01\0\0\0\0");
+    cuts(b"capacity 5", b"CCS\x02\0\x02\x01\x01\x05");
+    cuts(b"capacity 5, method 255", b"CCS\x02\0\x02\x01\x01\x05\xFF");
+    cuts(
+        b"65 bytes, method 0",
+        b"CCS\x02\0\x02\x01\x01\0\0\x02\x02\x05\0\0\0\x02\x07\0\0\0\x2A\0\
+            \0\0\0\0\0\0\0\0\0\0\0\0\0\0\0\0\0\0\0\0\0\
+            \0\0\0\0\0\0\0\0\0\0\0\0\0\0\0\0\0\0\0\0\0",
+    );
+    cuts(
+        b"65 bytes, method 1",
+        b"CCS\x02\0\x02\x01\x01\0\x01\x02\x02\x05\0\0\0\x02\x07\0\0\0\x2A\0\
+            \0\0\0\0\0\0\0\0\0\0\0\0\0\0\0\0\0\0\0\0\0\
+            \0\0\0\0\0\0\0\0\0\0\0\0\0\0\0\0\0\0\0\0\0",
+    );
+}
+
 pub(crate) fn run() {
     cuts(b"example 1", b"CC");
     cuts(b"example 2", b"CCT");
-    cuts(b"example 3", b"CCS\x02\0");
+    cuts(b"example 3", b"CCS\x03\0");
     cuts(b"example 4", b"CCS\x01\0\x03");
     cuts(b"example 5", b"CCS\x01\0\x02\0");
     cuts(b"example 6", b"CCS\x01\0\x02\x01\0");
@@ -47,6 +75,7 @@ pub(crate) fn run() {
     cuts(b"example 10", b"CCS\x01\0\x02\x01\x01\0\0\x01\x80");
     cuts(b"example 11", b"CCS\x01\0\x02\x01\x01\0\0\x01\0\x01");
     cuts(b"example 12", b"CCS\x01\0\x02\x01\x01\0\0\0\0\xFF");
+    cuts(b"example 15", b"CCS\x02\0\x02\x01\x01\0\x02");
     cuts(
         b"64 bytes",
         b"CCS\x01\0\x02\x01\x01\0\x02\x02\x05\0\0\0\x02\x07\0\0\0\x2A\0\
@@ -66,4 +95,5 @@ pub(crate) fn run() {
         b"CCS\x01\0\x01\x10\xFF\x40\0\0\0\0\0\0\0\0\0\0\0\0\0\0\0\0\x02\0\0\x10",
     );
     entries();
+    second();
 }

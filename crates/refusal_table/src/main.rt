@@ -1,4 +1,4 @@
-// Prints what the judge and the writer answer at the examples of document 01's refusal table, and at the limits of each field. 0 is no refusal.
+// Prints what the judge and the writer answer at the examples of the papers' refusal table, and at the limits of each field. 0 is no refusal.
 mod examples;
 mod fields;
 mod rows;

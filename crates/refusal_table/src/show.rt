@@ -48,7 +48,8 @@ pub(crate) fn fill(row: &mut [u8], pattern: &[u8])
     }
 }
 
-// Refusal 0 with the object, n, h, the capacity, the requests and the entries that the judge found; or the refusal.
+// Refusal 0 with the version, the object, n, h, the capacity, the method, the requests and the entries that the judge found; or the
+// refusal.
 pub(crate) fn judged(file: &[u8]) {
     text(b" judged");
     match bench_file::judge(file) {
@@ -57,9 +58,13 @@ pub(crate) fn judged(file: &[u8]) {
             requests,
             entries,
         } => {
+            byte(0);
+            number(head.version as u64);
             let kind = head.object;
             let object = object::kind_number(kind);
-            bytes(&[0, object, head.n, head.h, head.capacity]);
+            let method = head.method;
+            let by = machine::method_number(method);
+            bytes(&[object, head.n, head.h, head.capacity, by]);
             number(requests as u64);
             number(entries as u64);
         }
@@ -108,10 +113,11 @@ fn held(out: &[u8]) {
     number(sums);
 }
 
-// Lends the writer the first bytes of a buffer that holds 0xAA only, and shows its refusal, the length written and what the whole
-// buffer holds then.
+// Gives the writer a version, then object, n, h, capacity and method, and lends it the first bytes of a buffer that holds 0xAA only.
+// Shows its refusal, the length written and what the whole buffer holds then.
 pub(crate) fn written(
-    numbers: [u8; 4],
+    version: u16,
+    numbers: [u8; 5],
     counts: &[u8],
     requests: &[u8],
     schedule: &[u8],
@@ -122,10 +128,12 @@ pub(crate) fn written(
 {
     fill(out, &[0xAA]);
     let answer = bench_writer::write(
+        version,
         numbers[0],
         numbers[1],
         numbers[2],
         numbers[3],
+        numbers[4],
         counts,
         requests,
         schedule,

@@ -14,24 +14,26 @@ use Rattle.bench_file.specs.Bytes.{InRange}
 use Rattle.machine.specs.declared.Method.{Method}
 use Rattle.machine.specs.declared.Method.the-variants.{CcSynch, DsmSynch}
 use Rattle.machine.specs.declared.ThreadId.{ThreadId}
-use Rattle.machine.specs.declared.NodeId.{NodeId}
 use Rattle.machine.specs.declared.Thread.{Thread}
 use Rattle.machine.specs.declared.Event.{Event}
 use Rattle.machine.specs.declared.Event.the-variants.{Blank, Swaps, Applies}
 use Rattle.machine.specs.declared.RetVal.the-variants.{Answered}
 use Rattle.machine.specs.Accesses.{Access}
+use Rattle.machine.specs.Methods.{lastLine}
 use Rattle.machine.specs.Sizes.{mostCalls, mostNodes}
 use Rattle.cc_lines.specs.Lines as ccLines
 use Rattle.cc_lines.proofs.Numbers as ccNumbers
-use Rattle.dsm_synch.specs.Lines as dsmLines
-use Rattle.dsm_synch.proofs.Numbers as dsmNumbers
+use Rattle.dsm_lines.specs.Lines as dsmLines
+use Rattle.dsm_lines.proofs.Numbers as dsmNumbers
+use Rattle.methods.specs.Methods.{spinLine, spinNode}
 use Rattle.state.specs.declared.State.{State}
-use Rattle.state.proofs.RangeFacts.{state-fits}
+use Rattle.state.proofs.RangeFacts.{ThreadFits, state-fits, nodes-held}
 use Rattle.step.specs.Entry.{named, line}
 use Rattle.step.specs.Entry as cc
 use Rattle.step.specs.DsmEntry as dsm
 use Rattle.step.specs.ByMethod.{pointsToBy, eventBy, appliedBy, effectBy, accessesBy, referencesBy, enteredBy, outBy, nullMetBy}
-use Rattle.step.proofs.Outcome.{target-in-range}
+use Rattle.step.proofs.Outcome.{thread-fits, runs-line, target-in-range}
+use Rattle.step.proofs.Soundness.{Sound}
 use Rattle.invariant.specs.View.{viewOf}
 use Rattle.invariant.proofs.Bridge as ccBridge
 use Rattle.dsm_invariant.proofs.Bridge as dsmBridge
@@ -41,11 +43,11 @@ use Rattle.history.specs.Copies.{remoteMarks}
 use Rattle.history.specs.Terms.{Serving, servings}
 use Rattle.history.specs.Method.{Seen, Positions, Moves}
 use Rattle.history.specs.History.{SwapOrder}
-use Rattle.claims.specs.Entries.{entryBy, startBy, entriesBy, stateAfter}
+use Rattle.claims.specs.Entries.{assignedBy, entryBy, startBy}
 use Rattle.claims.specs.Claims.{askedOf, ClaimedBy}
 use Rattle.claims.proofs.Chronicle.{Chronicle}
 use Rattle.claims.proofs.Chronicled.{Chronicled}
-use Rattle.claims.proofs.Counted.{marks-of, remote-ones}
+use Rattle.claims.proofs.Counted.{remote-ones}
 use Rattle.claims.proofs.Layers as ccLayers
 use Rattle.claims.proofs.Meets as ccMeets
 use Rattle.claims.proofs.Parts.{claim}
@@ -72,28 +74,13 @@ pub record Standing (m : Method) (f : Fields) (s : State) (past : List Entry) : 
   pub going : Going m f s past
   pub layers : Layered m f s past
 
--- the node that a Swap assigns to its call
-abbrev pub assignedBy : Method → State → ThreadId → NodeId
-assignedBy CcSynch s t = s .tail
-assignedBy DsmSynch s t = named s t .my
-
 chronicled : (m : Method) (f : Fields) (s : State) (past : List Entry) → Standing m f s past → Chronicled (Paid m) m f s past
 chronicled CcSynch f s past now = ccLayers.chronicled f s past (now .going) (now .layers)
 chronicled DsmSynch f s past now = dsmTheorem.chronicled f s past (now .going) (now .layers)
 
--- an entry is what its method says that it is, with its accesses
-pub event-of : (m : Method) (s : State) (t : ThreadId) → entryBy m s t .event ≡ eventBy m s t
-event-of CcSynch s t = refl
-event-of DsmSynch s t = refl
-
-accesses-of : (m : Method) (s : State) (t : ThreadId) → entryBy m s t .accesses ≡ accessesBy m s t
-accesses-of CcSynch s t = refl
-accesses-of DsmSynch s t = refl
-
--- and makes as many remote references as the state counts
+-- an entry makes as many remote references as the state counts
 pub remote-of : (m : Method) (s : State) (t : ThreadId) → referencesBy m s t .remote ≡ remoteIn (entryBy m s t .remote)
-remote-of CcSynch s t = sym (remote-ones CcSynch (s .n) (t .0) (s .copies) (accessesBy CcSynch s t))
-remote-of DsmSynch s t = sym (remote-ones DsmSynch (s .n) (t .0) (s .copies) (accessesBy DsmSynch s t))
+remote-of m s t = sym (remote-ones m (s .n) (t .0) (s .copies) (accessesBy m s t))
 
 -- the fresh machine has it
 layers-start : (m : Method) (f : Fields) → InRange f → Layered m f (startBy m f) []
@@ -102,6 +89,11 @@ layers-start DsmSynch f fits = dsmTheorem.layers-start f fits
 
 pub standing-start : (m : Method) (f : Fields) → InRange f → Standing m f (startBy m f) []
 standing-start m f fits = record { going = going-start m f; layers = layers-start m f fits }
+
+-- its state is in range, with full arrays
+pub sound : (m : Method) (f : Fields) (s : State) (past : List Entry) → Standing m f s past → Sound m s
+sound CcSynch f s past now = now .layers .sound
+sound DsmSynch f s past now = now .layers .sound
 
 -- what it claims
 pub claimed : (m : Method) (f : Fields) → InRange f → (s : State) (past : List Entry) → Standing m f s past → ClaimedBy m f past
@@ -135,10 +127,19 @@ pub record Next (m : Method) (f : Fields) (s : State) (past : List Entry) (t : T
   pub silent : Is Blank (entryBy m s t) → remoteIn (entryBy m s t .remote) ≡ 0
 
 module _ (f : Fields) (fits : InRange f) (s : State) (past : List Entry) (t : ThreadId) (below : t .0 < s .n) where
-  -- the line that it runs is one of a table of 29, and its thread has begun at most 16 calls
-  pub line-most : (m : Method) → Standing m f s past → line s t ≤ 28
-  line-most CcSynch now = omega (arith, ccBridge.runs-it s t (now .layers .sound) below .printed)
-  line-most DsmSynch now = dsmBridge.runs-it s t (now .layers .control) below .printed
+  -- the line that it runs is one of its method's, and a thread that waits reads the wait of a node
+  pub line-most : (m : Method) → Standing m f s past → line s t ≤ lastLine m
+  line-most m now = let fits = sound m f s past now in runs-line m s t (fits .shape) (fits .range) below .printed
+
+  waits-at : (m : Method) (last h line : ℕ) (th : Thread) → ThreadFits m last h th line → line ≡ spinLine m → spinNode m (th .cur) (th .my) .0 ≤ last
+  waits-at CcSynch last h line th f e = rw e at (f .pointers .cur)
+  waits-at DsmSynch last h line th f e = rw e at (f .pointers .my)
+
+  pub waited-below : (m : Method) → Standing m f s past → named s t .line ≡ spinLine m → spinNode m (named s t .cur) (named s t .my) .0 < mostNodes
+  waited-below m now stands =
+      let fine = sound m f s past now in
+      let at = waits-at m _ _ _ (named s t) (thread-fits m s t (fine .shape) (fine .range) below) stands in
+      omega (arith, at, nodes-held m (s .n) (omega arith) (omega (arith, now .going .n, fits .head .n)))
 
   begun-few : (m : Method) (now : Standing m f s past) (u : ℕ) → u < f .head .n → viewOf s .thread u .begun ≤ 16
   begun-few m now u b =
@@ -184,14 +185,14 @@ module _ (f : Fields) (fits : InRange f) (s : State) (past : List Entry) (t : Th
     assigns = assigns;
     serves = serves;
     answers = answers;
-    silent = λ q. ap remoteIn (marks-of m s t) ∙ ap (λ (l : List Access). remoteIn (remoteMarks m (s .n) (t .0) (s .copies) l)) (accesses-of m s t ∙ silent q);
+    silent = λ q. ap (λ (l : List Access). remoteIn (remoteMarks m (s .n) (t .0) (s .copies) l)) (silent q);
   }
 
   pub next-of : (m : Method) → Standing m f s past → length past < 32768 → nullMetBy m s t ≡ false → Next m f s past t
   next-of CcSynch now short fine =
       let l = ccLines.lineOf (line s t) in
       let sound = now .layers .sound in
-      let small = state-fits s (sound .range) in
+      let small = state-fits CcSynch s (sound .range) in
       next-from CcSynch (ccLayers.moved f fits s past t below (now .going) (now .layers)) (now .layers .chronicle) (layers-next CcSynch now short fine .chronicle)
       (omega (arith, now .going .n)) (ap (λ (th : Thread). th .begun) (ccBridge.does-of s t sound below .mine)) (tells-of s t)
       (λ q. omega (arith, small .tail, small .small))

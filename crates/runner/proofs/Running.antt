@@ -1,13 +1,13 @@
--- What the loop of a run keeps: the invariant of the file's run, what the arrays say of the entries so far, and that the rest of the schedule ends the run.
--- Assumes fields in range.
+-- What the loop of a run keeps, by either method: the invariant of the file's run, what the arrays say of the entries so far, and that the rest of the schedule ends
+-- the run. Assumes fields in range.
 use Prim.Native.Nat.{ℕ, _+_, _-_, _*_, _%_, _≤_, _<_}
 use native.Mathlib.Numerals.{add-one}
 use native.Mathlib.Omega.{arith}
 use mathlib.Core.Path.{_≡_, refl, sym, ap, subst, _∙_}
 use mathlib.Core.Bool.{Bool, true, false, cond}
 use mathlib.Core.List.{List, [], _∷_, map, reverseAux}
-use lib.ListN.{length, getD, set, drop, replicate, drop-of-length-le}
-use lib.Seq.{drop-cons}
+use lib.ListN.{length, getD, set, drop, replicate, drop-of-length-le, List·getD-eq-default}
+use lib.Seq.{drop-cons, set-out}
 use Rattle.object.specs.Each.{Each}
 use Rattle.bench_file.specs.Layout.{Fields}
 use Rattle.bench_file.specs.Bytes.{InRange}
@@ -15,42 +15,53 @@ use Rattle.object.specs.declared.Kind.{Kind}
 use Rattle.object.specs.declared.Answer.{Answer}
 use Rattle.object.specs.declared.Answer.the-variants.{Empty}
 use Rattle.object.specs.declared.Object.{Object}
-use Rattle.machine.specs.declared.Announced.{Announced}
 use Rattle.object.specs.declared.Applied.{Applied}
+use Rattle.machine.specs.declared.Announced.{Announced}
 use Rattle.machine.specs.declared.NodeId.{NodeId}
+use Rattle.machine.specs.declared.Node.{Node}
 use Rattle.machine.specs.declared.Effect.{Effect}
 use Rattle.machine.specs.declared.Method.{Method}
+use Rattle.machine.specs.declared.Method.the-variants.{CcSynch, DsmSynch}
 use Rattle.machine.specs.declared.ThreadId.{ThreadId}
 use Rattle.machine.specs.declared.Event.{Event}
 use Rattle.machine.specs.declared.Event.the-variants.{Swaps, TurnBegins, Applies}
 use Rattle.machine.specs.declared.Row.{Row}
 use Rattle.machine.specs.Events.{sameEvent}
+use Rattle.machine.specs.Lines.{upFrom}
+use Rattle.machine.specs.Methods.{lastLine}
 use Rattle.machine.specs.Sizes.{mostCalls, mostNodes}
-use Rattle.cc_lines.specs.Lines.{L0, printed, lineOf, rowOf}
-use Rattle.cc_synch.specs.Effect.{takesOut}
+use Rattle.methods.specs.Methods.{rowBy, spinLine, spinNode}
+use Rattle.methods.specs.Methods as methods
 use Rattle.state.specs.declared.Counts.{Counts}
 use Rattle.state.specs.declared.State.{State}
-use Rattle.state.specs.Range.{inRange, countsInRange}
+use Rattle.state.specs.Range.{inRangeBy, countsInRange}
 use Rattle.state.specs.Shape.{Shaped}
-use Rattle.state.proofs.RangeFacts.{state-fits}
-use Rattle.step.specs.Entry.{servedBy, appliedAt, plus, wrapped, named, line}
-use Rattle.step.specs.ByMethod.{enteredBy, outBy, nullMetBy}
-use Rattle.cc_lines.proofs.Numbers.{number-most}
-use Rattle.step.proofs.Outcome.{target-in-range}
-use Rattle.step.proofs.Entering.{place-few, Called, made, is-row, at-target, is-event, is-applied, sums, line-done, entered-by, fits-wrapped}
-use Rattle.invariant.proofs.Bridge.{number-line}
-use Rattle.history.specs.Entries.{Entry, threadId, Is, howMany}
+use Rattle.step.specs.Entry.{zeroNode, servedBy, appliedAt, plus, wrapped, named, line}
+use Rattle.step.specs.ByMethod.{pointsToBy, eventBy, appliedBy, effectBy, enteredBy, outBy, nullMetBy}
+use Rattle.step.proofs.Entering.{Called, made, at-points, is-event, is-applied, remote-is, sums, line-out, line-through, entered-by, fits-wrapped}
+use Rattle.step.proofs.Soundness.{Sound}
+use Rattle.history.specs.Entries.{Entry, threadId, is, Is, howMany, remoteIn}
 use Rattle.history.specs.Terms.{noCall, noTurn}
 use Rattle.history.proofs.Told.{is-so}
-use Rattle.claims.specs.Entries.{entryBy, startBy, entriesFrom, meetsNoNull, historyBy}
+use Rattle.claims.specs.Entries.{assignedBy, entryBy, startBy, startOf, entriesFrom, meetsNoNull, historyBy}
 use Rattle.claims.proofs.Counted.{next-fits}
 use Rattle.kept.specs.declared.Kept.{Kept}
 use Rattle.runner.specs.declared.Played.{Played}
 use Rattle.kept.specs.Kept.{placeOf, callAt, keptOf, unkept, afterEntry, afterServing}
-use Rattle.runner.specs.Played.{Startable, playedFrom}
-use Rattle.runner.proofs.Invariant.{Standing, standing-start, swaps-most, Next, line-most, begun-now, null-alone, standing-next, next-of}
+use Rattle.runner.specs.Played.{Startable, unplayed, playedFrom}
+use Rattle.runner.proofs.Invariant.{Standing, standing-start, swaps-most, Next, sound, line-most, waited-below, begun-now, null-alone, standing-next, next-of, remote-of}
 use Rattle.runner.proofs.Tabled.{is-tabled}
 use Rattle.runner.proofs.Tables.{Tables, tables-start, place, served, enteredCalls, servedCalls, orderAfter, givenAfter, turnsAfter, place-below, served-below, tables-next}
+
+-- the node that a Swap assigns is the entry's
+assigned-so : (m : Method) (s : State) (t : ThreadId) → methods.assignedBy m (s .tail) (named s t .my) ≡ assignedBy m s t
+assigned-so CcSynch s t = refl
+assigned-so DsmSynch s t = refl
+
+-- no method has more than 28 lines
+lines-most : (m : Method) → lastLine m ≤ 28
+lines-most CcSynch = omega arith
+lines-most DsmSynch = omega arith
 
 -- the run at place i of the schedule: the entries so far, and what is left
 pub record Running (m : Method) (f : Fields) (bytes : List ℕ) (i : ℕ) (s : State) (kept : List Kept) (order given turns : List ℕ) : Type 0 where
@@ -112,11 +123,17 @@ module _ (m : Method) (f : Fields) (bytes : List ℕ) (fits : InRange f) where
     pub thread-few : t .0 < 16
     thread-few = omega (arith, each .0, fits .head .n)
 
+    pub line-last : line s t ≤ lastLine m
+    line-last = line-most f fits s (x .past) t below m (x .standing)
+
     pub line-few : {k : ℕ} → k ≡ line s t → k < 29
-    line-few e = omega (arith, e, line-most f fits s (x .past) t below m (x .standing))
+    line-few e = omega (arith, e, line-last, lines-most m)
 
     pub slot-few : {p : ℕ} → p ≡ 16 * t .0 + (named s t .begun - 1) → p < mostCalls
     slot-few e = omega (arith, e, thread-few, begun-now f fits s (x .past) t below m (x .standing))
+
+    pub waited-few : {node : NodeId} → named s t .line ≡ spinLine m → node ≡ spinNode m (named s t .cur) (named s t .my) → node .0 < mostNodes
+    waited-few stands e = rw e (waited-below f fits s (x .past) t below m (x .standing) stands)
 
     -- the entry's line is 14 exactly if it meets null, and then so is the run
     pub only-null : outBy m s t ≡ nullMetBy m s t
@@ -167,3 +184,184 @@ module _ (m : Method) (f : Fields) (bytes : List ℕ) (fits : InRange f) where
         ends = ends-next;
         clear = clear-next;
       }
+
+    -- what the loop's own calls answered for the entry, and what the notes left in the arrays
+    pub record Booked (d : Kept) (ev : Event) (applies : Bool) (p a : NodeId) (answer : Answer) (e : Effect) (remote call served : ℕ) (order′ given′ turns′ : List ℕ) (mine theirs : Kept) : Type 0 where
+      pub of-applies : applies ≡ sameEvent ev Applies
+      pub of-call : call ≡ 16 * t .0 + (e .thread .begun - 1)
+      pub of-served : served ≡ cond applies (getD given (p .0) 0) call
+      pub of-assigned : a ≡ methods.assignedBy m (s .tail) (named s t .my)
+      pub of-turns : turns′ ≡ cond (sameEvent ev TurnBegins) (set turns (t .0) (s .counts .turns % 65536)) turns
+      pub of-given : given′ ≡ cond (sameEvent ev Swaps) (set given (a .0) (call % 65536)) given
+      pub of-order : order′ ≡ cond (sameEvent ev Swaps) (set order (s .counts .records) (call % 65536)) order
+      pub of-mine : mine ≡ afterEntry (getD kept call d) ev remote i
+      pub of-theirs : theirs ≡ afterServing (getD (set kept call mine) served d) applies answer t (getD turns (t .0) 0)
+
+    module _ {k c remote : ℕ} {r : Row} {p w : NodeId} {xn yn : Node} {ev : Event} {ob : Applied} {e : Effect} {copies : List ℕ} {more : Counts}
+        (called : Called m s t k r p xn yn ev c ob e remote copies w more) where
+      shape : Shaped s
+      shape = sound m f s (x .past) (x .standing) .shape
+
+      range : inRangeBy m s ≡ true
+      range = sound m f s (x .past) (x .standing) .range
+
+      -- a line that is refused meets null, and so the run is 14
+      pub refused-run : (e .refusal ≡ 0 → ⊥) → unplayed 14 ≡ playedFrom (startBy m f) (f .schedule)
+      refused-run q = let met = sym only-null ∙ line-out m s t shape range below called q in rw (null-met met)
+
+      -- one that is not meets none
+      module _ (done : e .refusal ≡ 0) where
+        pub fine : nullMetBy m s t ≡ false
+        fine = sym only-null ∙ line-through m s t shape range below called done .0
+
+        is-effect : e ≡ effectBy m s t
+        is-effect = line-through m s t shape range below called done .1
+
+        is-remote : remote ≡ remoteIn (entryBy m s t .remote)
+        is-remote = remote-is m s t shape range below called ∙ remote-of m s t
+
+        fits-counts : countsInRange (plus (s .counts) more) ≡ true
+        fits-counts = ap countsInRange (sums m s t shape range below called) ∙ next-fits m s (x .past) t (x .standing .going .counted) few
+
+        module _ {call : ℕ} (at : call ≡ 16 * t .0 + (e .thread .begun - 1)) where
+          pub is-call : call ≡ place m s t
+          is-call = at ∙ ap (λ (e : Effect). 16 * t .0 + (e .thread .begun - 1)) is-effect
+
+          pub is-served : {their : ℕ} {applies : Bool} → applies ≡ sameEvent ev Applies → their ≡ cond applies (getD given (p .0) 0) call → their ≡ served m s t given
+          is-served q z = rw (q, is-event m s t shape range below called, at-points m s t shape range below called, is-call) at z
+
+        running-booked : {call their : ℕ} {order′ given′ turns′ : List ℕ} {counts : Counts} {d mine theirs : Kept} {applies : Bool} {a : NodeId}
+            → counts ≡ wrapped (plus (s .counts) more) → Booked d ev applies p a (ob .answer) e remote call their order′ given′ turns′ mine theirs
+            → Running m f bytes (i + 1) (made s t w (ob .object) e copies counts) (set (set kept call mine) their theirs) order′ given′ turns′
+        running-booked {d = d} {mine = mine} {theirs = theirs} {a = a} sum b =
+            let after = entered-by m s t shape range below called is-effect (sum ∙ fits-wrapped _ fits-counts) in
+            let told = is-event m s t shape range below called in
+            let at = is-call (b .of-call) in
+            let to = is-served (b .of-call) (b .of-applies) (b .of-served) in
+            let given-to : a ≡ assignedBy m s t = b .of-assigned ∙ assigned-so m s t in
+            let Own : ℕ → Type 0 = λ number. mine ≡ afterEntry (getD kept (place m s t) d) (eventBy m s t) (remoteIn (entryBy m s t .remote)) number in
+            let own : Own (length (x .past)) = subst Own (sym (x .numbered)) (rw (told, is-remote, at) at (b .of-mine)) in
+            let other : theirs ≡ afterServing (getD (enteredCalls m s t (length (x .past)) d kept) (served m s t given) d) (sameEvent (eventBy m s t) Applies) (appliedBy m s t .answer) t (getD turns (t .0) 0) =
+            rw (b .of-applies, told, is-applied m s t shape range below called, own, at, to) at (b .of-theirs) in
+            rw (
+              after,
+              other,
+              own,
+              to,
+              rw (told, at) at (b .of-order),
+              rw (told, at, given-to) at (b .of-given),
+              rw told at (b .of-turns),
+              at,
+            ) (running-next fine d)
+
+-- a state with another object, other nodes and other counts
+abbrev pub changed : State → Object → List Node → Counts → State
+changed s ob nodes counts = record {
+  method = s .method;
+  n = s .n;
+  h = s .h;
+  kind = s .kind;
+  capacity = s .capacity;
+  tail = s .tail;
+  threads = s .threads;
+  nodes = nodes;
+  requests = s .requests;
+  copies = s .copies;
+  object = ob;
+  counts = counts;
+}
+
+-- an entry that applies puts an object in its place
+abbrev withObject : State → Object → State
+withObject s ob = changed s ob (s .nodes) (s .counts)
+
+-- what the branch for it leaves: the answer and the state with what was applied, if anything was
+pub record Serves (s J : State) (answer : Answer) (ob : Applied) : Type 0 where
+  pub answers : answer ≡ ob .answer
+  pub state : J ≡ withObject s (ob .object)
+
+module _ (s J : State) (answer : Answer) (ev : Event) (req : Announced) where
+  pub serves-one : {ob : Applied} → sameEvent ev Applies ≡ true → ob ≡ servedBy (s .kind) (s .capacity) (s .object) req → answer ≡ ob .answer → J ≡ withObject s (ob .object)
+      → Serves s J answer (appliedAt ev (s .kind) (s .capacity) (s .object) req)
+  serves-one q e a j = rw (q, ← e) (record { answers = a; state = j })
+
+  pub serves-none : sameEvent ev Applies ≡ false → answer ≡ Empty → J ≡ s → Serves s J answer (appliedAt ev (s .kind) (s .capacity) (s .object) req)
+  serves-none q a j = rw q (record { answers = a; state = j })
+
+-- a node that is read, or what stands for one past the end of the array
+pub read-there : (nodes : List Node) {i : ℕ} {x : Node} → x ≡ zeroNode → length nodes ≤ i → x ≡ getD nodes i zeroNode
+read-there nodes {i = i} e past = e ∙ sym (List·getD-eq-default nodes zeroNode {n = i} past)
+
+-- a node that is stored, past the end of the array nowhere
+abbrev pub withNodes : State → List Node → State
+withNodes s nodes = changed s (s .object) nodes (s .counts)
+
+-- what the loop holds: what it read once, and the run
+pub record Looping (bytes : List ℕ) (start : State) (method : Method) (rows : List Row) (spin n h : ℕ) (kind : Kind) (capacity i : ℕ) (s : State) (kept : List Kept) (order given turns : List ℕ) : Type 0 where
+  pub file : Fields
+  pub fits : InRange file
+  pub entries : bytes ≡ file .schedule
+  pub fresh : start ≡ startBy method file
+  pub table : rows ≡ map (rowBy method) (upFrom 0 29)
+  pub waits : spin ≡ spinLine method
+  pub threads : n ≡ s .n
+  pub limit : h ≡ s .h
+  pub object : kind ≡ s .kind
+  pub room : capacity ≡ s .capacity
+  pub inside : i ≤ length bytes
+  pub running : Running method file bytes i s kept order given turns
+
+-- the start of the loop
+pub looping-start : {bytes : List ℕ} {rows : List Row} {spin : ℕ} {s : State} {kept : List Kept} → rows ≡ map (rowBy (s .method)) (upFrom 0 29) → spin ≡ spinLine (s .method)
+    → kept ≡ replicate mostCalls unkept → Startable bytes s
+    → Looping bytes s (s .method) rows spin (s .n) (s .h) (s .kind) (s .capacity) 0 s kept (replicate mostCalls 0) (replicate mostNodes (placeOf noCall)) (replicate 16 noTurn)
+looping-start {bytes = bytes} {s = s} {kept = kept} table waits fresh ready =
+    let f = ready .file in
+    let by : s .method ≡ f .head .method = ap (λ (s : State). s .method) (ready .start) in
+    let start : s ≡ startBy (s .method) f = ready .start ∙ ap (λ (m : Method). startBy m f) (sym by) in
+    let running = running-start (s .method) f bytes (ready .fits) (ready .entries) in
+    record {
+      file = f;
+      fits = ready .fits;
+      entries = ready .entries;
+      fresh = start;
+      table = table;
+      waits = waits;
+      threads = refl;
+      limit = refl;
+      object = refl;
+      room = refl;
+      inside = omega arith;
+      running =
+          subst (λ (s₀ : State). Running (s .method) f bytes 0 s₀ kept (replicate mostCalls 0) (replicate mostNodes (placeOf noCall)) (replicate 16 noTurn)) (sym start)
+          (rw fresh running);
+    }
+
+module _ {bytes : List ℕ} {start : State} {method : Method} {rows : List Row} {spin n h capacity i : ℕ} {kind : Kind} {s : State} {kept : List Kept} {order given turns : List ℕ}
+    (x : Looping bytes start method rows spin n h kind capacity i s kept order given turns) where
+  -- the run after one more entry
+  pub looping-on : {s′ : State} {kept′ : List Kept} {order′ given′ turns′ : List ℕ} → s′ .n ≡ s .n → s′ .h ≡ s .h → s′ .kind ≡ s .kind → s′ .capacity ≡ s .capacity
+      → i < length bytes → Running method (x .file) bytes (i + 1) s′ kept′ order′ given′ turns′
+      → Looping bytes start method rows spin n h kind capacity (i + 1) s′ kept′ order′ given′ turns′
+  looping-on same-n same-h same-kind same-capacity inside running = record {
+    file = x .file;
+    fits = x .fits;
+    entries = x .entries;
+    fresh = x .fresh;
+    table = x .table;
+    waits = x .waits;
+    threads = x .threads ∙ sym same-n;
+    limit = x .limit ∙ sym same-h;
+    object = x .object ∙ sym same-kind;
+    room = x .room ∙ sym same-capacity;
+    inside = omega arith;
+    running = running;
+  }
+
+  -- the end of the loop
+  pub looping-ends : length bytes ≤ i → _≡_ {A = Played} (record { refusal = 0; counts = s .counts; kept = kept; order = order }) (playedFrom start bytes)
+  looping-ends done =
+      let run = x .running in
+      let whole = ends-none method (x .file) bytes (x .fits) run done in
+      let clear = ends-clear method (x .file) bytes (x .fits) run done in
+      rw (x .entries, x .fresh, clear, ← whole, run .standing .going .counted .counts, run .tables .swaps, is-tabled (λ p. keptOf (run .past) (callAt p)) kept mostCalls unkept (run .tables .calls-long) (run .tables .calls)) refl

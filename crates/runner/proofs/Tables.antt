@@ -34,13 +34,13 @@ use Rattle.history.proofs.Shown.{shown-none}
 use Rattle.history.proofs.Sums.{one-each, tests-few, cost-fits}
 use Rattle.history.proofs.Swaps.{of-last, serves-next}
 use Rattle.history.proofs.Told.{is-so, is-not, by-event}
-use Rattle.claims.specs.Entries.{entryBy, filled}
+use Rattle.claims.specs.Entries.{assignedBy, entryBy, filled}
 use Rattle.claims.proofs.Filled.{set-filled}
 use Rattle.claims.proofs.Counted.{counted-next}
 use Rattle.claims.proofs.Cut.{entry-thread}
 use Rattle.claims.proofs.Run.{Going}
 use Rattle.kept.specs.declared.Kept.{Kept}
-use Rattle.runner.proofs.Invariant.{assignedBy, Next}
+use Rattle.runner.proofs.Invariant.{Next}
 use Rattle.kept.specs.Kept.{placeOf, callAt, keptBy, keptOf, unkept, afterEntry, afterServing}
 
 -- what the arrays say of the entries so far, the latest first

@@ -18,107 +18,6 @@ pub struct Played {
     pub order: [u16; machine::CALLS],
 }
 
-// The run of a file's schedule from its fresh machine, in place.
-fn from_start(schedule: &[u8], start: State) -> Played
-    requires { ⌜ Startable (now schedule) start ⌝ }
-    ensures { λ r. ⌜ r ≡ playedFrom start (now (schedule .entry)) ⌝ }
-{
-    let rows = cc_lines::all_rows();
-    let n = start.n;
-    let h = start.h;
-    let kind = start.kind;
-    let capacity = start.capacity;
-    let mut state = start;
-    let mut kept = [kept::unkept(); machine::CALLS];
-    let mut order = [0u16; machine::CALLS];
-    let mut given = [kept::NO_CALL; machine::NODES];
-    let mut turns = [kept::NO_TURN; 16];
-    let mut i = 0usize;
-    while i < schedule.len() {
-        let thread = ThreadId(schedule[i]);
-        let t = thread.0 as usize;
-        // Two kinds of entry change nothing but a count: a spin on a valid copy, looked for before all else, and a blank. Where the entry is no spin, the
-        // thread is copied out again: one copy for both is slower.
-        let seen = state.threads[t];
-        if seen.line == cc_lines::SPIN_LINE {
-            let at = copies::place(seen.cur);
-            let spun = seen.cur.0 as usize;
-            if state.nodes[spun].wait & copies::has_copy(state.copies[at], thread) {
-                state.counts.spins += 1;
-                i += 1;
-                continue;
-            }
-        }
-        let named = state.threads[t];
-        let line = machine::line_run(named);
-        let row = rows[line as usize];
-        let row_event = row.event;
-        if machine::same_event(row_event, Event::Blank) {
-            state.counts.blanks += 1;
-            i += 1;
-            continue;
-        }
-        let pointer = row.node;
-        let target = machine::pointed(pointer, named.own, named.cur, named.tmp);
-        let m = target.0 as usize;
-        let node = state.nodes[m];
-        let req = node.req;
-        let event = cc_lines::event_in(row_event, node);
-        let applies = machine::same_event(event, Event::Applies);
-        let place = step::call_place(thread, named.begun);
-        let slot = state.requests[place];
-        let request = slot.request;
-        let tail = state.tail;
-        let counts = state.counts;
-        let mut answer = Answer::Empty;
-        if applies {
-            let object = state.object;
-            let applied = step::served_by(kind, capacity, object, req);
-            let object_after = applied.object;
-            answer = applied.answer;
-            state.object = object_after;
-        }
-        let effect = cc_synch::run_line(named, node, tail, h, request, answer);
-        // The row's accesses are read here, where alone they are needed.
-        let accesses = rows[line as usize];
-        let remote = copies::refer_all(&mut state.copies, accesses, target, thread, n);
-        let more = step::more_of(event, remote);
-        let thread_after = effect.thread;
-        let node_after = effect.node;
-        let tail_after = effect.tail;
-        let counts_after = step::plus(counts, more);
-        state.threads[t] = thread_after;
-        state.nodes[m] = node_after;
-        state.tail = tail_after;
-        state.counts = counts_after;
-        let call = step::call_place(thread, thread_after.begun);
-        let turn = turns[t];
-        let served = kept::served_place(applies, given[m], call);
-        kept::note_entry(
-            &mut turns,
-            &mut given,
-            &mut order,
-            event,
-            thread,
-            tail,
-            counts,
-            call,
-        );
-        let mine = kept[call];
-        kept[call] = kept::after_entry(mine, event, remote, i as u32);
-        let theirs = kept[served];
-        kept[served] = kept::after_serving(theirs, applies, answer, thread, turn);
-        i += 1;
-    }
-    let counts = state.counts;
-    Played {
-        refusal: 0,
-        counts,
-        kept,
-        order,
-    }
-}
-
 // A refusal.
 fn unplayed(number: u8) -> Played
     ensures { λ r. ⌜ r ≡ unplayed number ⌝ }
@@ -134,6 +33,147 @@ fn unplayed(number: u8) -> Played
         },
         kept: [kept::unkept(); machine::CALLS],
         order: [0u16; machine::CALLS],
+    }
+}
+
+// The run of a file's schedule from its fresh machine, in place, by the machine's method; 14 where an entry's line meets null.
+fn from_start(schedule: &[u8], start: State) -> Played
+    requires { ⌜ Startable (now schedule) start ⌝ }
+    ensures { λ r. ⌜ r ≡ playedFrom start (now (schedule .entry)) ⌝ }
+{
+    let method = start.method;
+    let rows = methods::all_rows(method);
+    let spin_line = methods::spin_line(method);
+    let n = start.n;
+    let h = start.h;
+    let kind = start.kind;
+    let capacity = start.capacity;
+    let mut state = start;
+    let mut kept = [kept::unkept(); machine::CALLS];
+    let mut order = [0u16; machine::CALLS];
+    let mut given = [kept::NO_CALL; machine::NODES];
+    let mut turns = [kept::NO_TURN; 16];
+    let mut i = 0usize;
+    while i < schedule.len() {
+        let thread = ThreadId(schedule[i]);
+        let t = thread.0 as usize;
+        // Two kinds of entry change nothing but a count: a spin that makes no remote reference, looked for before all else, and a blank. Where the entry is no
+        // such spin, the thread is copied out again: one copy for both is slower.
+        let seen = state.threads[t];
+        if seen.line == spin_line {
+            let waited = methods::spin_node(method, seen.cur, seen.my);
+            let at = copies::place(waited);
+            let spun = waited.0 as usize;
+            if state.nodes[spun].wait & copies::at_hand(method, state.copies[at], waited, thread) {
+                state.counts.spins += 1;
+                i += 1;
+                continue;
+            }
+        }
+        let named = state.threads[t];
+        let line = machine::line_run(named);
+        let row = rows[line as usize];
+        let row_event = row.event;
+        if machine::same_event(row_event, Event::Blank) {
+            state.counts.blanks += 1;
+            i += 1;
+            continue;
+        }
+        let pointer = row.node;
+        let tail = state.tail;
+        let tmp = named.tmp;
+        let points = machine::pointed(pointer, named.own, named.cur, tmp, named.my, named.pred);
+        let m = points.0 as usize;
+        let mut node = step::zero_node();
+        if m < machine::NODES {
+            node = state.nodes[m];
+        }
+        let req = node.req;
+        let next = node.next;
+        let event = machine::event_in(row, node, tail.0 == tmp.0);
+        let applies = machine::same_event(event, Event::Applies);
+        let place = step::call_place(thread, named.begun);
+        let slot = state.requests[place];
+        let request = slot.request;
+        let counts = state.counts;
+        let mut answer = Answer::Empty;
+        if applies {
+            let object = state.object;
+            let applied = step::served_by(kind, capacity, object, req);
+            let object_after = applied.object;
+            answer = applied.answer;
+            state.object = object_after;
+        }
+        let b = next.0 as usize;
+        let mut behind = step::zero_node();
+        if b < machine::NODES {
+            behind = state.nodes[b];
+        }
+        let effect = methods::run_line(
+            method,
+            thread,
+            named,
+            node,
+            behind,
+            tail,
+            h,
+            request,
+            answer,
+        );
+        if effect.refusal != 0 {
+            return unplayed(14);
+        }
+        // The row's accesses are read here, where alone they are needed.
+        let accesses = rows[line as usize];
+        let remote = copies::refer_all(
+            method,
+            &mut state.copies,
+            accesses,
+            points,
+            next,
+            thread,
+            n,
+        );
+        let more = step::more_of(event, remote);
+        let written = machine::written(accesses, points, next);
+        let w = written.0 as usize;
+        let thread_after = effect.thread;
+        let node_after = effect.node;
+        let tail_after = effect.tail;
+        let counts_after = step::plus(counts, more);
+        state.threads[t] = thread_after;
+        if w < machine::NODES {
+            state.nodes[w] = node_after;
+        }
+        state.tail = tail_after;
+        state.counts = counts_after;
+        let call = step::call_place(thread, thread_after.begun);
+        let turn = turns[t];
+        let to = kept::given_at(&given, points);
+        let served = kept::served_place(applies, to, call);
+        let assigned = methods::assigned(method, tail, named.my);
+        kept::note_entry(
+            &mut turns,
+            &mut given,
+            &mut order,
+            event,
+            thread,
+            assigned,
+            counts,
+            call,
+        );
+        let mine = kept[call];
+        kept[call] = kept::after_entry(mine, event, remote, i as u32);
+        let theirs = kept[served];
+        kept[served] = kept::after_serving(theirs, applies, answer, thread, turn);
+        i += 1;
+    }
+    let counts = state.counts;
+    Played {
+        refusal: 0,
+        counts,
+        kept,
+        order,
     }
 }
 

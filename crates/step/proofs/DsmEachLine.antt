@@ -4,7 +4,6 @@ use Prim.Native.Nat.{ℕ, _+_, _-_, _*_, _≤_, _<_}
 use native.Mathlib.Omega.{arith}
 use mathlib.Core.Path.{_≡_, refl, sym, subst}
 use mathlib.Core.Bool.{Bool, true, false, cond, not, _&&_, _||_, or-false, or-true, and-eq-true-iff}
-use mathlib.Core.List.{_∷_}
 use lib.Dec.{leb, ltb, eqb}
 use borrow.Author.Tests.{leb-true, leb-false, lt-leb, le-ltb, ne-eqb}
 use Rattle.object.specs.declared.Kind.{Kind}
@@ -13,7 +12,6 @@ use Rattle.object.specs.declared.Answer.{Answer}
 use Rattle.object.specs.Paper.{answerInRange}
 use Rattle.object.specs.Apply.{knows}
 use Rattle.object.proofs.Choice.{either, both-fail}
-use Rattle.object.proofs.Each.{each-same}
 use Rattle.machine.specs.declared.Method.the-variants.{DsmSynch}
 use Rattle.machine.specs.declared.NodeId.{NodeId}
 use Rattle.machine.specs.declared.Node.{Node}
@@ -25,8 +23,8 @@ use Rattle.machine.specs.Lines.{standsAt}
 use Rattle.machine.specs.Owners.{nodeOf}
 use Rattle.machine.specs.Sizes.{mostNodes}
 use Rattle.machine.specs.Threads.{goes, withMy, withPred, withTmp, withServed, withLine}
-use Rattle.dsm_lines.specs.Lines.{Line, printed, lineOf, number, accesses, pointed, target, empties, L0, L1, L2, L3, L4, L5, L6, L7, L8, L9, L10, L11, L12, L13, L14, L15, L16, L17, L18, L19, L20, L21, L22, L23, L24, L25, L26, L27, L28}
-use Rattle.dsm_lines.proofs.Numbers.{number-of, number-most, each-line}
+use Rattle.dsm_lines.specs.Lines.{Line, lineOf, number, accesses, pointed, target, empties, L0, L1, L2, L3, L4, L5, L6, L7, L8, L9, L10, L11, L12, L13, L14, L15, L16, L17, L18, L19, L20, L21, L22, L23, L24, L25, L26, L27, L28}
+use Rattle.dsm_lines.proofs.Numbers.{number-of, number-most, agree}
 use Rattle.dsm_synch.specs.Effect.{keeps, writes, usesEmpty, takesOut, executed}
 use Rattle.dsm_synch.proofs.Null.{PointsToNode, meets-exactly}
 use Rattle.state.specs.Range.{threadInRange}
@@ -46,7 +44,7 @@ abbrev pointedAt : Thread → ℕ → NodeId
 pointedAt th k = cond (eqb k 9) (th .pred) (cond (atTmp k) (th .tmp) (th .my))
 
 pointed-at : (th : Thread) (l : Line) → pointed th l ≡ pointedAt th (number l)
-pointed-at th = each-line (λ l. pointed th l ≡ pointedAt th (number l)) (each-same (pointed th) (λ l. pointedAt th (number l)) (L0 ∷ printed) refl)
+pointed-at th = agree (pointed th) (λ l. pointedAt th (number l)) refl refl
 
 module _ (last h : ℕ) (th : Thread) where
   -- from line 3 on myNode is a node, from line 14 on tmpNode

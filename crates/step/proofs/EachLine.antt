@@ -3,7 +3,7 @@
 use Prim.Native.Nat.{ℕ, _+_, _≤_, _<_}
 use native.Mathlib.Omega.{arith}
 use mathlib.Core.Path.{_≡_, refl, subst}
-use mathlib.Core.Bool.{Bool, true, false, not, _&&_, or-false, and-eq-true-iff}
+use mathlib.Core.Bool.{Bool, true, false, not, _&&_, or-false, and-eq-true-iff, false≢true}
 use mathlib.Core.List.{_∷_}
 use lib.Dec.{leb, ltb}
 use borrow.Author.Tests.{leb-true, leb-false, lt-leb, le-ltb, ne-eqb}
@@ -19,7 +19,7 @@ use Rattle.machine.specs.declared.Node.{Node}
 use Rattle.machine.specs.declared.Thread.{Thread}
 use Rattle.machine.specs.declared.Effect.{Effect}
 use Rattle.machine.specs.declared.Pointer.{Pointer}
-use Rattle.machine.specs.declared.Pointer.the-variants.{Own, Cur, Tmp}
+use Rattle.machine.specs.declared.Pointer.the-variants.{Own, Cur, Tmp, My, Pred}
 use Rattle.machine.specs.Fields.{isNull}
 use Rattle.machine.specs.Accesses.{pointed}
 use Rattle.cc_lines.specs.Lines.{Line, printed, lineOf, rowOf, L0, L1, L2, L3, L4, L5, L6, L7, L8, L9, L10, L11, L12, L13, L14, L15, L16, L17, L18, L19, L20, L21, number}
@@ -31,11 +31,13 @@ use Rattle.machine.specs.Lines.{standsAt}
 use Rattle.cc_lines.proofs.Numbers.{number-of}
 use Rattle.step.proofs.Leaving.{Leaves, goes-on, kept, written, barred}
 
--- the lines at which a pointer of a thread is a node for sure
+-- the lines at which a pointer of a thread of CC-Synch is a node for sure
 abbrev sure : Pointer → ℕ → Bool
 sure Own k = true
 sure Cur k = leb 6 k
 sure Tmp k = within 13 k 20
+sure My k = false
+sure Pred k = false
 
 module _ (n h : ℕ) (th : Thread) where
   sure-at : (p : Pointer) (k : ℕ) → sure p k ≡ true → ThreadFits CcSynch n h th (standsAt k) → pointed p th .0 ≤ n
@@ -46,6 +48,8 @@ module _ (n h : ℕ) (th : Thread) where
   sure-at Tmp k e f =
       let p = simp (and-eq-true-iff, leb-iff) at e in
       rw (lt-leb k 1 (omega arith), le-ltb k 13 (p .0), ne-eqb k 21 (λ q. omega arith)) at (f .pointers .tmp)
+  sure-at My k e f = absurd (false≢true e)
+  sure-at Pred k e f = absurd (false≢true e)
 
   -- a line points to a node
   pub target-at : (k : ℕ) → k ≤ 21 → ThreadFits CcSynch n h th (standsAt k) → pointed (rowOf (lineOf k) .node) th .0 ≤ n

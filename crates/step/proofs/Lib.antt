@@ -1,5 +1,6 @@
 pub mod Accessed
 pub mod Alike
+pub mod ByMethod
 pub mod Computed
 pub mod DsmEachLine
 pub mod DsmSteps
@@ -11,4 +12,6 @@ pub mod Leaving
 pub mod Numbers
 pub mod Outcome
 pub mod Past
+pub mod Rows
 pub mod Soundness
+pub mod Used

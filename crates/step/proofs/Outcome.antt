@@ -99,7 +99,7 @@ module _ (m : Method) (s : State) (t : ThreadId) (shaped : Shaped s) (range : in
 
   -- the node that the line points to is in use or null, and so are the one behind it and the one that it writes
   pub points-in-range : NodeOrNull last (pointsToBy m s t .0)
-  points-in-range = points m (s .n) (s .h) (named s t) (runs-line .printed) standing
+  points-in-range = points m (s .n) (s .h) (named s t) (line s t) (runs-line .printed) standing
 
   pub node-fits : NodeFits (s .kind) (s .capacity) last (nodeBy m s t)
   node-fits = node-there points-in-range
@@ -108,7 +108,7 @@ module _ (m : Method) (s : State) (t : ThreadId) (shaped : Shaped s) (range : in
   behind-fits = node-there (node-fits .next)
 
   pub written-in-range : NodeOrNull last (writtenBy m s t .0)
-  written-in-range = writes m (s .n) (s .h) (named s t) (nodeBy m s t) (runs-line .printed) standing (node-fits .next)
+  written-in-range = writes m (s .n) (s .h) (named s t) (nodeBy m s t) (line s t) (runs-line .printed) standing (node-fits .next)
 
   -- the request of a call that has begun stands in the thread's row
   request-known : 0 < named s t .begun → knows (s .kind) (request s t) ≡ true
@@ -125,7 +125,7 @@ module _ (m : Method) (s : State) (t : ThreadId) (shaped : Shaped s) (range : in
   pub leaves : Leaves m last (s .h) (s .kind) (s .capacity) (named s t) (missesBy m s t) (outBy m s t) (effectBy m s t)
   leaves =
       leaves-by m (s .n) (s .h) (s .kind) (s .capacity) (t .0) (named s t) (nodeBy m s t) (behindBy m s t) (s .tail) (request s t) (appliedBy m s t .answer)
-      (facts .small) below (facts .tail) node-fits behind-fits thread-fits request-known answer-in-range (runs-line .printed) standing (runs-line .begins)
+      (facts .small) below (facts .tail) node-fits behind-fits thread-fits request-known answer-in-range (line s t) (runs-line .printed) standing (runs-line .begins)
 
   head-stays : headInRange (enteredBy m s t) ≡ true
   head-stays =

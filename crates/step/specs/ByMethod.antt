@@ -15,7 +15,6 @@ use Rattle.machine.specs.declared.Thread.{Thread}
 use Rattle.machine.specs.declared.Event.{Event}
 use Rattle.machine.specs.declared.Effect.{Effect}
 use Rattle.machine.specs.Accesses.{Access, toNull, pointed}
-use Rattle.machine.specs.Lines.{lineRun}
 use Rattle.cc_lines.specs.Lines as ccLines
 use Rattle.cc_synch.specs.Effect as ccEffect
 use Rattle.dsm_lines.specs.Lines as dsmLines
@@ -23,52 +22,52 @@ use Rattle.dsm_synch.specs.Effect as dsmEffect
 use Rattle.copies.specs.Remote.{Referred, referredBy}
 use Rattle.state.specs.declared.Counts.{Counts}
 use Rattle.state.specs.declared.State.{State}
-use Rattle.step.specs.Entry.{zeroNode, appliedAt, moreOf, plus, stateWith, named, request}
+use Rattle.step.specs.Entry.{zeroNode, appliedAt, moreOf, plus, stateWith, named, line, request}
 
--- the line that a thread runs next, by its method: the node that it points to, x in the rest
-abbrev pub linePoints : Method → Thread → NodeId
-linePoints CcSynch th = pointed (ccLines.rowOf (ccLines.lineOf (lineRun th)) .node) th
-linePoints DsmSynch th = dsmLines.pointed th (dsmLines.lineOf (lineRun th))
+-- line k of a method, run by a thread: the node that it points to, x in the rest
+abbrev pub linePoints : Method → Thread → ℕ → NodeId
+linePoints CcSynch th k = pointed (ccLines.rowOf (ccLines.lineOf k) .node) th
+linePoints DsmSynch th k = dsmLines.pointed th (dsmLines.lineOf k)
 
 -- the node that it writes, if it writes one
-abbrev pub lineWrites : Method → Thread → Node → NodeId
-lineWrites CcSynch th x = linePoints CcSynch th
-lineWrites DsmSynch th x = dsmLines.target th x (dsmLines.lineOf (lineRun th))
+abbrev pub lineWrites : Method → Thread → Node → ℕ → NodeId
+lineWrites CcSynch th x k = linePoints CcSynch th k
+lineWrites DsmSynch th x k = dsmLines.target th x (dsmLines.lineOf k)
 
 -- its accesses, in order
-abbrev pub lineAccesses : Method → Thread → Node → List Access
-lineAccesses CcSynch th x = ccLines.accessesBy th (ccLines.lineOf (lineRun th))
-lineAccesses DsmSynch th x = dsmLines.accesses th x (dsmLines.lineOf (lineRun th))
+abbrev pub lineAccesses : Method → Thread → Node → ℕ → List Access
+lineAccesses CcSynch th x k = ccLines.accessesBy th (ccLines.lineOf k)
+lineAccesses DsmSynch th x k = dsmLines.accesses th x (dsmLines.lineOf k)
 
 -- what an entry of it is, where Tail is this
-abbrev pub lineEvent : Method → Thread → Node → NodeId → Event
-lineEvent CcSynch th x tail = ccLines.eventIn (ccLines.rowOf (ccLines.lineOf (lineRun th)) .event) x
-lineEvent DsmSynch th x tail = dsmLines.eventIn x (dsmLines.empties tail (th .tmp)) (dsmLines.lineOf (lineRun th))
+abbrev pub lineEvent : Method → Thread → Node → NodeId → ℕ → Event
+lineEvent CcSynch th x tail k = ccLines.eventIn (ccLines.rowOf (ccLines.lineOf k) .event) x
+lineEvent DsmSynch th x tail k = dsmLines.eventIn x (dsmLines.empties tail (th .tmp)) (dsmLines.lineOf k)
 
 -- what it does, as thread t, with y the node behind x
-abbrev pub lineDone : Method → ℕ → Thread → Node → Node → NodeId → ℕ → Request → Answer → Effect
-lineDone CcSynch t th x y tail h request answer = ccEffect.executed th x tail h request answer (ccLines.lineOf (lineRun th))
-lineDone DsmSynch t th x y tail h request answer = dsmEffect.executed t th x y tail h request answer (dsmLines.lineOf (lineRun th))
+abbrev pub lineDone : Method → ℕ → Thread → Node → Node → NodeId → ℕ → Request → Answer → ℕ → Effect
+lineDone CcSynch t th x y tail h request answer k = ccEffect.executed th x tail h request answer (ccLines.lineOf k)
+lineDone DsmSynch t th x y tail h request answer k = dsmEffect.executed t th x y tail h request answer (dsmLines.lineOf k)
 
--- what it would use that is not there: an empty req or ret, and in DSM-Synch null, where it follows it
-abbrev pub lineMisses : Method → Thread → Node → Bool
-lineMisses CcSynch th x = ccEffect.usesEmpty x (lineRun th)
-lineMisses DsmSynch th x = dsmEffect.usesEmpty x (lineRun th) || toNull (lineAccesses DsmSynch th x)
+-- whether it would use what is not there: an empty req or ret, and in DSM-Synch null, where it follows it
+abbrev pub lineMisses : Method → Thread → Node → ℕ → Bool
+lineMisses CcSynch th x k = ccEffect.usesEmpty x k
+lineMisses DsmSynch th x k = dsmEffect.usesEmpty x k || toNull (lineAccesses DsmSynch th x k)
 
 -- whether it is 14 for a cause of its own, and whether because it meets null; what ranges and counts of a state add belongs to the single step
-abbrev pub lineOut : Method → Thread → Node → ℕ → Bool
-lineOut CcSynch th x h = ccEffect.takesOut th x h (lineRun th)
-lineOut DsmSynch th x h = dsmEffect.takesOut th x h (lineRun th)
+abbrev pub lineOut : Method → Thread → Node → ℕ → ℕ → Bool
+lineOut CcSynch th x h k = ccEffect.takesOut th x h k
+lineOut DsmSynch th x h k = dsmEffect.takesOut th x h k
 
-abbrev pub lineMeetsNull : Method → Thread → Node → Bool
-lineMeetsNull CcSynch th x = false
-lineMeetsNull DsmSynch th x = dsmEffect.meetsNull th x (lineRun th)
+abbrev pub lineMeetsNull : Method → Thread → Node → ℕ → Bool
+lineMeetsNull CcSynch th x k = false
+lineMeetsNull DsmSynch th x k = dsmEffect.meetsNull th x k
 
 -- the entry of a thread in a state
 module _ (m : Method) (s : State) (t : ThreadId) where
   -- the node that the line points to, and the one behind it
   abbrev pub pointsToBy : NodeId
-  pointsToBy = linePoints m (named s t)
+  pointsToBy = linePoints m (named s t) (line s t)
 
   abbrev pub nodeBy : Node
   nodeBy = getD (s .nodes) (pointsToBy .0) zeroNode
@@ -78,22 +77,22 @@ module _ (m : Method) (s : State) (t : ThreadId) where
 
   -- the node that it writes, if it writes one
   abbrev pub writtenBy : NodeId
-  writtenBy = lineWrites m (named s t) nodeBy
+  writtenBy = lineWrites m (named s t) nodeBy (line s t)
 
   -- what the entry is
   abbrev pub eventBy : Event
-  eventBy = lineEvent m (named s t) nodeBy (s .tail)
+  eventBy = lineEvent m (named s t) nodeBy (s .tail) (line s t)
 
   abbrev pub appliedBy : Applied
   appliedBy = appliedAt eventBy (s .kind) (s .capacity) (s .object) (nodeBy .req)
 
   -- what the line does
   abbrev pub effectBy : Effect
-  effectBy = lineDone m (t .0) (named s t) nodeBy behindBy (s .tail) (s .h) (request s t) (appliedBy .answer)
+  effectBy = lineDone m (t .0) (named s t) nodeBy behindBy (s .tail) (s .h) (request s t) (appliedBy .answer) (line s t)
 
   -- the accesses that it makes, in order, and which of them are remote
   abbrev pub accessesBy : List Access
-  accessesBy = lineAccesses m (named s t) nodeBy
+  accessesBy = lineAccesses m (named s t) nodeBy (line s t)
 
   abbrev pub referencesBy : Referred
   referencesBy = referredBy m (s .n) (t .0) (s .copies) accessesBy
@@ -107,10 +106,10 @@ module _ (m : Method) (s : State) (t : ThreadId) where
 
   -- what the line misses, and whether it is 14 for a cause of its own
   abbrev pub missesBy : Bool
-  missesBy = lineMisses m (named s t) nodeBy
+  missesBy = lineMisses m (named s t) nodeBy (line s t)
 
   abbrev pub outBy : Bool
-  outBy = lineOut m (named s t) nodeBy (s .h)
+  outBy = lineOut m (named s t) nodeBy (s .h) (line s t)
 
   abbrev pub nullMetBy : Bool
-  nullMetBy = lineMeetsNull m (named s t) nodeBy
+  nullMetBy = lineMeetsNull m (named s t) nodeBy (line s t)

@@ -3,11 +3,15 @@ ghost use Prim.Native.Nat.{_+_, _-_, _*_, _^_, _<_};
 ghost use mathlib.Core.Path.{_≡_};
 ghost use mathlib.Core.Bool.{true};
 ghost use lib.Dec.{ltb};
+ghost use lib.ListN.{getD, set};
 ghost use Rattle.state.specs.Range.{inRange, countsInRange};
-ghost use Rattle.step.specs.Entry.{servedBy, appliedAt, oneIf, moreOf, plus, wrapped};
-ghost use Rattle.step.specs.Step.{refused, outcomeOf, stepOf};
+ghost use Rattle.step.specs.Entry.{zeroNode, servedBy, appliedAt, oneIf, moreOf, plus, wrapped};
+ghost use Rattle.step.specs.Step.{refused, outcomeBy, stepOf};
 use machine::Announced;
 use machine::Event;
+use machine::Node;
+use machine::NodeId;
+use machine::RetVal;
 use machine::ThreadId;
 use object::Answer;
 use object::Applied;
@@ -120,35 +124,90 @@ pub fn plus(counts: Counts, more: Counts) -> Counts
     }
 }
 
+// What is read past the last node, where myNode or the node behind is null: a line makes nothing of it.
+pub fn zero_node() -> Node
+    ensures { λ r. ⌜ r ≡ zeroNode ⌝ }
+{
+    Node {
+        req: Announced::NoRequest,
+        ret: RetVal::NoAnswer,
+        wait: false,
+        completed: false,
+        next: NodeId(0),
+    }
+}
+
+// A node, and the nodes with one written; past the last there is none.
+fn node_at(nodes: [Node; machine::NODES], node: NodeId) -> Node
+    ensures { λ r. ⌜ r ≡ getD nodes (node .0) zeroNode ⌝ }
+{
+    let place = node.0 as usize;
+    if place < machine::NODES {
+        return nodes[place];
+    }
+    zero_node()
+}
+
+fn nodes_with(nodes: [Node; machine::NODES], node: NodeId, value: Node) -> [Node; machine::NODES]
+    ensures { λ r. ⌜ r ≡ set nodes (node .0) value ⌝ }
+{
+    let place = node.0 as usize;
+    let mut after = nodes;
+    if place < machine::NODES {
+        after[place] = value;
+    }
+    after
+}
+
 // The entry of a thread below n on a state in range.
 fn enter(state: State, thread: ThreadId) -> Stepped
     requires { ⌜ (inRange state ≡ true) × (thread .0 < state .n) ⌝ }
-    ensures { λ r. ⌜ r ≡ outcomeOf state thread ⌝ }
+    ensures { λ r. ⌜ r ≡ outcomeBy (state .method) state thread ⌝ }
 {
     let t = thread.0 as usize;
+    let method = state.method;
     let n = state.n;
     let kind = state.kind;
     let tail = state.tail;
+    let nodes = state.nodes;
     let object = state.object;
     let counts = state.counts;
     let named = state.threads[t];
     let line = machine::line_run(named);
-    let row = cc_lines::row_of(line);
+    let row = methods::row_of(method, line);
     let pointer = row.node;
-    let target = machine::pointed(pointer, named.own, named.cur, named.tmp);
-    let m = target.0 as usize;
-    let node = state.nodes[m];
-    let row_event = row.event;
-    let event = cc_lines::event_in(row_event, node);
+    let target = machine::pointed(
+        pointer,
+        named.own,
+        named.cur,
+        named.tmp,
+        named.my,
+        named.pred,
+    );
+    let node = node_at(nodes, target);
+    let next = node.next;
+    let behind = node_at(nodes, next);
+    let event = machine::event_in(row, node, tail.0 == named.tmp.0);
     let req = node.req;
     let place = call_place(thread, named.begun);
     let slot = state.requests[place];
     let request = slot.request;
     let applied = applied_at(event, kind, state.capacity, object, req);
     let answer = applied.answer;
-    let effect = cc_synch::run_line(named, node, tail, state.h, request, answer);
+    let effect = methods::run_line(
+        method,
+        thread,
+        named,
+        node,
+        behind,
+        tail,
+        state.h,
+        request,
+        answer,
+    );
     let mut after = state;
-    let remote = copies::refer_all(&mut after.copies, row, target, thread, n);
+    let remote = copies::refer_all(method, &mut after.copies, row, target, next, thread, n);
+    let written = machine::written(row, target, next);
     let more = more_of(event, remote);
     if effect.refusal != 0 {
         return refused(14, state);
@@ -161,8 +220,9 @@ fn enter(state: State, thread: ThreadId) -> Stepped
     let tail_after = effect.tail;
     let object_after = applied.object;
     let counts_after = plus(counts, more);
+    let nodes_after = nodes_with(nodes, written, node_after);
     after.threads[t] = thread_after;
-    after.nodes[m] = node_after;
+    after.nodes = nodes_after;
     after.tail = tail_after;
     after.object = object_after;
     after.counts = counts_after;

@@ -1,6 +1,4 @@
 -- `bench_file::read_method` meets its contract: version 1 has no byte, version 2 has the byte behind the capacity. Assumes nothing.
-use mathlib.Core.Path.{sym, _∙_}
-use native.Mathlib.Omega.{arith}
 use borrow.Author.Needs.{needs}
 use borrow.Author.Tests.{eq-eqb, ne-eqb}
 use Rattle.bench_file.proofs.Reading.{byte-was, inside}

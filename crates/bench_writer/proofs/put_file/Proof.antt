@@ -6,10 +6,11 @@ use native.Mathlib.Omega.{arith}
 use lib.ListN.{length, length-append}
 use borrow.Author.Needs.{needs}
 use Rattle.bench_file.specs.Layout.{headLength}
-use Rattle.bench_file.specs.Bytes.{lowFirst}
-use Rattle.bench_writer.specs.Writer.{Given, givenBy, interleaved, rawHead, rawBytes}
+use Rattle.bench_file.specs.Bytes.{lowFirst, headFrom}
+use Rattle.bench_writer.specs.Writer.{Given, givenBy, interleaved, rawBytes}
 use Rattle.bench_file.proofs.Each.{low-length}
-use Rattle.bench_writer.proofs.Laying.{raw-head-length, raw-length}
+use Rattle.bench_file.proofs.Size.{head-length}
+use Rattle.bench_writer.proofs.Laying.{raw-length}
 use Rattle.bench_writer.proofs.Pasted.{pasted-behind}
 use Rattle.bench_writer.proofs.put_file.Statement.{statement}
 use Rattle.bench_writer.proofs.put_file.Tie as tie
@@ -23,7 +24,7 @@ file c =
     givenBy (a .version) (a .object) (a .n) (a .h) (a .capacity) (a .method) (a .counts .now) (a .requests .now) (a .schedule .now)
 
 abbrev fileHead : Given → List ℕ
-fileHead g = rawHead (g .version) (g .object) (g .n) (g .h) (g .capacity) (g .method)
+fileHead g = headFrom (g .version) (g .object) (g .n) (g .h) (g .capacity) (g .method)
 
 -- the buffer's bytes are enough for each run
 enough : (c : tie.After-put-head-arg) → headLength (file c .version) + 2 + length (interleaved (file c .counts) (file c .requests)) + length (file c .schedule) ≤ length (given c .args .out .now)
@@ -73,7 +74,7 @@ returns c =
     let g = file (h .before) in
     let rows = interleaved (g .counts) (g .requests) in
     let low = lowFirst 2 (length (g .schedule)) in
-    let long = r .before .head-bytes .ensures ∙ sym (raw-head-length (g .version) (g .object) (g .n) (g .h) (g .capacity) (g .method)) in
+    let long = r .before .head-bytes .ensures ∙ sym (head-length (g .version) (g .object) (g .n) (g .h) (g .capacity) (g .method)) in
     let next = r .put-rows .ensures .0 ∙ ap (λ (at : ℕ). at + length rows) long ∙ sym (length-append (fileHead g) rows) in
     pasted-behind out (fileHead g ++ rows ++ low) (g .schedule) (r .put-rows .result + 2)
     (pasted-behind out (fileHead g ++ rows) low (r .put-rows .result)

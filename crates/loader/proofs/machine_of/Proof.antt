@@ -9,23 +9,26 @@ use Rattle.loader.proofs.machine_of.Statement.{statement}
 use Rattle.loader.proofs.machine_of.Tie as tie
 
 abbrev Inv-loop : tie.InvT-loop
-Inv-loop file head kind counts₀ requests₀ at₀ i₀ counts requests at i = Walk file head i at counts requests
+Inv-loop file head method kind counts₀ requests₀ at₀ i₀ counts requests at i = Walk file head i at counts requests
 
 abbrev μ-loop : tie.MeasureT-loop
-μ-loop file head kind counts₀ requests₀ at₀ i₀ counts requests at i = head .n - i
+μ-loop file head method kind counts₀ requests₀ at₀ i₀ counts requests at i = head .n - i
 
 no-request-requires : tie.Need-no-request-requires Inv-loop μ-loop
 no-request-requires c κs = search needs
 
+head-bytes-requires : tie.Need-head-bytes-requires Inv-loop μ-loop
+head-bytes-requires c κs = search needs
+
 -- the next row lies within the file, and its requests within the places
-row-in : (c : tie.Then1 Inv-loop μ-loop) → RowInside (c .before .before .before .before .before .args .file .now) (c .before .before .loop .i) (c .before .before .loop .at)
+row-in : (c : tie.Then1 Inv-loop μ-loop) → RowInside (c .before .before .before .before .before .before .args .file .now) (c .before .before .loop .i) (c .before .before .loop .at)
 row-in c = row-inside (c .before .before .loop .inv) (c .if1 .taken)
 
 loop-holds : tie.Need-loop-holds Inv-loop μ-loop
 loop-holds c =
-    let start = c .before .before in
-    rw (c .no-request .ensures)
-    (walk-starts (start .args .file .now) (start .args .head) (each-at (start .args .file .now) (λ i. omega (arith, c .before .shared-slice-known .given i))) (start .pre))
+    let start = c .before .before .before in
+    rw (c .before .no-request .ensures, c .head-bytes .ensures)
+    (walk-starts (start .args .file .now) (start .args .head) (each-at (start .args .file .now) (λ i. omega (arith, c .before .before .shared-slice-known .given i))) (start .pre))
 
 cast-place : tie.Need-cast-place Inv-loop μ-loop
 cast-place c = search needs
@@ -84,6 +87,7 @@ machine-of-spec =
     Inv-loop
     μ-loop
     no-request-requires
+    head-bytes-requires
     loop-holds
     cast-place
     shared-slice-read-count

@@ -6,10 +6,10 @@ use Rattle.refusal_table.proofs.fields.sweep.Statement.{statement}
 use Rattle.refusal_table.proofs.fields.sweep.Tie as tie
 
 abbrev Inv-loop : tie.InvT-loop
-Inv-loop name field file at values i₀ t8 t9 i = i ≤ length values
+Inv-loop name field file rows at values i₀ t8 t9 i = i ≤ length values
 
 abbrev μ-loop : tie.MeasureT-loop
-μ-loop name field file at values i₀ t8 t9 i = length values - i
+μ-loop name field file rows at values i₀ t8 t9 i = length values - i
 
 loop-holds : tie.Need-loop-holds Inv-loop μ-loop
 loop-holds c = search needs
