@@ -4,3 +4,4 @@ pub mod InPlace
 pub mod Putting
 pub mod Service
 pub mod Spelled
+pub mod Versions

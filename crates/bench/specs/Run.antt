@@ -1,4 +1,5 @@
--- What running a file gives, with so many bytes lent for its records: the result, and the bytes of the buffer. Document 01, 'The record of a call'.
+-- What running a file gives, with so many bytes lent for its records: the result, and the bytes of the buffer. Document 01, 'The record of a call', and request
+-- No. 6.
 use Prim.Native.Nat.{ℕ, zero, suc, _*_}
 use mathlib.Core.Bool.{cond}
 use mathlib.Core.List.{List, [], _∷_, _++_}
@@ -10,7 +11,8 @@ use Rattle.machine.specs.Sizes.{mostCalls}
 use Rattle.history.specs.Terms.{recordLength}
 use Rattle.claims.specs.Result.{Result, refusedResult, resultAs}
 
--- a run needs the bytes of a record for each request in the file, performed or not, else it is refused with 13
+-- a run needs the bytes of a record for each request in the file, performed or not, else it is refused with 13, whatever it would do; with enough lent it is 14 if
+-- an entry meets null
 abbrev pub resultIn : ℕ → Judgement → Result
 resultIn lent (accepted f) = cond (ltb lent (recordLength * requestsOf f)) (refusedResult 13) (resultAs (accepted f))
 resultIn lent (refusedBy number) = resultAs (refusedBy number)

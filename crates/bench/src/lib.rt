@@ -102,8 +102,8 @@ fn put_records(
     }
 }
 
-// Runs any bytes as a bench file; 13 where fewer bytes are lent than a record for each request in the file takes. The records stand in Swap order from the
-// buffer's first byte on; a refusal has none.
+// Runs any bytes as a bench file; 13 where fewer bytes are lent than a record for each request in the file takes, and then 14 where an entry would follow null or
+// put it into tmpNode. The records stand in Swap order from the buffer's first byte on; a refusal has none.
 pub fn run(file: &[u8], out: &mut [u8]) -> RunAnswer
     ensures { λ r. ⌜ Runs (now (file .entry)) (now (out .entry)) (now (out .exit)) r ⌝ }
 {

@@ -2,8 +2,9 @@
 use Prim.Native.Nat.{ℕ}
 use mathlib.Core.Path.{_≡_}
 use mathlib.Core.List.{List, [], _∷_}
-use lib.ListN.{getD}
+use lib.ListN.{getD, replicate}
 use Rattle.object.specs.Paper.{kindNumber}
+use Rattle.machine.specs.Methods.{methodNumber}
 use Rattle.bench_file.specs.declared.Judged.{Judged}
 use Rattle.bench_file.specs.declared.Judged.the-variants as Judged
 use Rattle.bench_file.specs.Layout.{judgeOf}
@@ -12,10 +13,11 @@ use Rattle.bench_writer.specs.declared.Written.{Written}
 use Rattle.bench.specs.declared.RunAnswer.{RunAnswer}
 use Rattle.cells.specs.declared.Printed.{Printed}
 
--- of a file that is accepted: object, n, h, capacity, requests in all, schedule entries
+-- of a file that is accepted: version, object, n, h, capacity, method, requests in all, schedule entries
 abbrev pub judgedNumbers : Judged → List ℕ
-judgedNumbers (Judged.Accepted head requests entries) = kindNumber (head .object) ∷ head .n ∷ head .h ∷ head .capacity ∷ requests ∷ entries ∷ []
-judgedNumbers (Judged.Refused refusal) = 0 ∷ 0 ∷ 0 ∷ 0 ∷ 0 ∷ 0 ∷ []
+judgedNumbers (Judged.Accepted head requests entries) =
+    head .version ∷ kindNumber (head .object) ∷ head .n ∷ head .h ∷ head .capacity ∷ methodNumber (head .method) ∷ requests ∷ entries ∷ []
+judgedNumbers (Judged.Refused refusal) = replicate 8 0
 
 -- what judging a file's bytes answers, and the numbers after it
 pub record JudgedIn (bytes numbers : List ℕ) (r : ℕ) : Type 0 where

@@ -22,8 +22,8 @@ fn judged_refusal(judged: Judged) -> u8
     }
 }
 
-// Object, n, h, capacity, requests in all and schedule entries of an accepted file; all 0 of a refused one.
-fn judged_numbers(judged: Judged) -> [usize; 6]
+// Version, object, n, h, capacity, method, requests in all and schedule entries of an accepted file; all 0 of a refused one.
+fn judged_numbers(judged: Judged) -> [usize; 8]
     ensures { λ r. ⌜ r ≡ judgedNumbers judged ⌝ }
 {
     match judged {
@@ -34,22 +34,26 @@ fn judged_numbers(judged: Judged) -> [usize; 6]
         } => {
             let object = head.object;
             let number = object::kind_number(object);
+            let method = head.method;
+            let by = machine::method_number(method);
             [
+                head.version as usize,
                 number as usize,
                 head.n as usize,
                 head.h as usize,
                 head.capacity as usize,
+                by as usize,
                 requests,
                 entries,
             ]
         }
-        Judged::Refused(_) => [0usize; 6],
+        Judged::Refused(_) => [0usize; 8],
     }
 }
 
 // Judges any bytes as a bench file, and tells its numbers.
 #[no_mangle]
-pub extern "C" fn ccs_judge(file: &[u8], numbers: &mut [usize; 6]) -> u8
+pub extern "C" fn ccs_judge(file: &[u8], numbers: &mut [usize; 8]) -> u8
     ensures { λ r. ⌜ JudgedIn (now (file .entry)) (now (numbers .exit)) r ⌝ }
 {
     let judged = bench_file::judge(file);
@@ -58,7 +62,7 @@ pub extern "C" fn ccs_judge(file: &[u8], numbers: &mut [usize; 6]) -> u8
 }
 
 // Runs any bytes as a bench file, its records into a lent buffer. The numbers are the counts of records, turns begun, blanks, spins and remote
-// references; those of a refusal are 0.
+// references; those of a refusal are 0: of 13 where too few bytes are lent, then of 14 where a line would follow null or put it into tmpNode.
 #[no_mangle]
 pub extern "C" fn ccs_run(file: &[u8], out: &mut [u8], numbers: &mut [u32; 5]) -> u8
     ensures { λ r. ⌜ Runs (now (file .entry)) (now (out .entry)) (now (out .exit)) (answerIn r (now (numbers .exit))) ⌝ }
@@ -75,27 +79,41 @@ pub extern "C" fn ccs_run(file: &[u8], out: &mut [u8], numbers: &mut [u32; 5]) -
     answer.refusal
 }
 
-// Writes the bench file of given fields into a lent buffer, and its length; the length of a refusal is 0.
+// Writes the bench file of given fields, in version 1 or 2, into a lent buffer, and its length; the length of a refusal is 0, of 15 for a method that there is not
+// or that version 1 has not.
 #[no_mangle]
 pub extern "C" fn ccs_write(
+    version: u16,
     object: u8,
     n: u8,
     h: u8,
     capacity: u8,
+    method: u8,
     counts: &[u8],
     requests: &[u8],
     schedule: &[u8],
     out: &mut [u8],
     length: &mut usize,
 ) -> u8
-    ensures { λ r. ⌜ WritesAs (givenBy object n h capacity (now (counts .entry)) (now (requests .entry)) (now (schedule .entry))) (writtenIn r (now (length .exit))) (now (out .entry)) (now (out .exit)) ⌝ }
+    ensures { λ r. ⌜ WritesAs (givenBy version object n h capacity method (now (counts .entry)) (now (requests .entry)) (now (schedule .entry))) (writtenIn r (now (length .exit))) (now (out .entry)) (now (out .exit)) ⌝ }
 {
-    let written = bench_writer::write(object, n, h, capacity, counts, requests, schedule, out);
+    let written = bench_writer::write(
+        version,
+        object,
+        n,
+        h,
+        capacity,
+        method,
+        counts,
+        requests,
+        schedule,
+        out,
+    );
     *length = written.length;
     written.refusal
 }
 
-// Lists any bytes as a bench file: its listing into a lent buffer, and the length; the length of a refusal is 0.
+// Lists any bytes as a bench file: its listing into a lent buffer, and the length; the length of a refusal, which is 13 alone, is 0.
 #[no_mangle]
 pub extern "C" fn ccs_list(file: &[u8], out: &mut [u8], length: &mut usize) -> u8
     ensures { λ r. ⌜ Lists (now (file .entry)) (now (out .entry)) (now (out .exit)) (printedIn r (now (length .exit))) ⌝ }
@@ -105,7 +123,7 @@ pub extern "C" fn ccs_list(file: &[u8], out: &mut [u8], length: &mut usize) -> u
     listed.refusal
 }
 
-// Prints the pages of any bytes as a bench file into a lent buffer, and their length; the length of a refusal is 0.
+// Prints the pages of any bytes as a bench file into a lent buffer, and their length; the length of a refusal, the file's own, 14 or 13, is 0.
 #[no_mangle]
 pub extern "C" fn ccs_page(file: &[u8], out: &mut [u8], length: &mut usize) -> u8
     ensures { λ r. ⌜ Prints (now (file .entry)) (now (out .entry)) (now (out .exit)) (printedIn r (now (length .exit))) ⌝ }

@@ -8,7 +8,7 @@ use Rattle.object.specs.declared.Answer.the-variants as Answer
 use Rattle.machine.specs.declared.RetVal.{RetVal}
 use Rattle.machine.specs.declared.RetVal.the-variants as RetVal
 use Rattle.cells.specs.declared.Word.{Word}
-use Rattle.cells.specs.declared.Word.the-variants.{Queue, Stack, Counter, Done, Value, Empty, Full, NoAnswer, Hyphen, Returned, Open}
+use Rattle.cells.specs.declared.Word.the-variants.{Queue, Stack, Counter, Done, Value, Empty, Full, NoAnswer, Hyphen, Returned, Open, Cc, Dsm}
 use Rattle.cells.specs.declared.Cell.{Cell}
 use Rattle.cells.specs.declared.Cell.the-variants.{Number, Says}
 use Rattle.cells.specs.Text.{text, decimal, spaces}
@@ -18,11 +18,11 @@ use Rattle.cells.proofs.Decimal.{at-most}
 
 -- the code's table of words
 abbrev pub table : List ℕ
-table = text "queue   stack   counter done    value   empty   full    none    -       returnedopen    "
+table = text "queue   stack   counter done    value   empty   full    none    -       returnedopen    cc      dsm     "
 
 -- a word stands in the table from 8 times its number on, and has at most 8 bytes
 pub record InTable (word : Word) : Type 0 where
-  pub number : wordNumber word ≤ 10
+  pub number : wordNumber word ≤ 12
   pub long : length (wordText word) ≤ 8
   pub there : take (8 * wordNumber word + length (wordText word) - 8 * wordNumber word) (drop (8 * wordNumber word) table) ≡ wordText word
 
@@ -38,6 +38,8 @@ in-table NoAnswer = record { number = omega arith; long = omega arith; there = r
 in-table Hyphen = record { number = omega arith; long = omega arith; there = refl }
 in-table Returned = record { number = omega arith; long = omega arith; there = refl }
 in-table Open = record { number = omega arith; long = omega arith; there = refl }
+in-table Cc = record { number = omega arith; long = omega arith; there = refl }
+in-table Dsm = record { number = omega arith; long = omega arith; there = refl }
 
 -- a mark word has at most five bytes
 pub mark-length : (ret : RetVal) → length (wordText (markWord ret)) ≤ 5

@@ -10,7 +10,7 @@ use Rattle.machine.specs.declared.RetVal.{RetVal}
 use Rattle.machine.specs.declared.RetVal.the-variants as RetVal
 use Rattle.history.specs.Terms.{noThread, noTurn, noEntry, numberAt}
 use Rattle.cells.specs.declared.Word.{Word}
-use Rattle.cells.specs.declared.Word.the-variants.{Queue, Stack, Counter, Done, Value, Empty, Full, NoAnswer, Hyphen, Returned, Open}
+use Rattle.cells.specs.declared.Word.the-variants.{Queue, Stack, Counter, Done, Value, Empty, Full, NoAnswer, Hyphen, Returned, Open, Cc, Dsm}
 use Rattle.cells.specs.declared.Cell.{Cell}
 use Rattle.cells.specs.declared.Cell.the-variants.{Number, Says}
 use Rattle.cells.specs.Text.{text, decimal}
@@ -28,6 +28,8 @@ wordText NoAnswer = text "none"
 wordText Hyphen = text "-"
 wordText Returned = text "returned"
 wordText Open = text "open"
+wordText Cc = text "cc"
+wordText Dsm = text "dsm"
 
 -- the number of a word in the code's table of them
 abbrev pub wordNumber : Word → ℕ
@@ -42,6 +44,8 @@ wordNumber NoAnswer = 7
 wordNumber Hyphen = 8
 wordNumber Returned = 9
 wordNumber Open = 10
+wordNumber Cc = 11
+wordNumber Dsm = 12
 
 -- a number in decimal, or a word
 abbrev pub cellText : Cell → List ℕ

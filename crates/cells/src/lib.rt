@@ -31,6 +31,8 @@ pub enum Word {
     Hyphen,
     Returned,
     Open,
+    Cc,
+    Dsm,
 }
 
 // What stands in one place of a line or of a row.
@@ -75,8 +77,8 @@ fn put_decimal(out: &mut [u8], at: usize, number: u32) -> usize
 }
 
 // The words, 8 bytes each, by their numbers.
-const WORDS: [u8; 88] =
-    *b"queue   stack   counter done    value   empty   full    none    -       returnedopen    ";
+const WORDS: [u8; 104] =
+    *b"queue   stack   counter done    value   empty   full    none    -       returnedopen    cc      dsm     ";
 
 fn word_number(word: Word) -> usize
     ensures { λ r. ⌜ r ≡ wordNumber word ⌝ }
@@ -93,6 +95,8 @@ fn word_number(word: Word) -> usize
         Word::Hyphen => 8,
         Word::Returned => 9,
         Word::Open => 10,
+        Word::Cc => 11,
+        Word::Dsm => 12,
     }
 }
 
@@ -111,6 +115,8 @@ fn word_length(word: Word) -> usize
         Word::Hyphen => 1,
         Word::Returned => 8,
         Word::Open => 4,
+        Word::Cc => 2,
+        Word::Dsm => 3,
     }
 }
 

@@ -1,21 +1,25 @@
--- How long the lines of a listing are at most, and a listing. Assumes at most 256 records.
-use Prim.Native.Nat.{ℕ, _≤_}
+-- How long the lines of a listing are at most, and a listing. Assumes at most 256 records, and a version of one digit.
+use Prim.Native.Nat.{ℕ, _+_, _≤_, _<_}
 use native.Mathlib.Omega.{arith}
-use mathlib.Core.List.{List, _++_}
+use mathlib.Core.Bool.{Bool, true, false, cond}
+use mathlib.Core.List.{List, [], _∷_, _++_}
 use lib.ListN.{length, length-append}
+use lib.Dec.{eqb}
 use Rattle.object.specs.declared.Kind.{Kind}
 use Rattle.object.specs.declared.Kind.the-variants as Kind
 use Rattle.bench_file.specs.declared.Head.{Head}
+use Rattle.machine.specs.declared.Method.{Method}
+use Rattle.machine.specs.declared.Method.the-variants.{CcSynch, DsmSynch}
 use Rattle.machine.specs.Sizes.{mostCalls}
 use Rattle.state.specs.declared.Counts.{Counts}
 use Rattle.history.specs.Terms.{noThread, noTurn, noEntry, numberAt}
 use Rattle.cells.specs.Text.{numbered}
 use Rattle.cells.specs.Cells.{wordText, valueCell, orHyphen, stateWord, rowIn, recordCells}
-use Rattle.cells.proofs.Decimal.{at-most}
+use Rattle.cells.proofs.Decimal.{at-most, no-longer}
 use Rattle.cells.proofs.Numbered.{numbered-most}
 use Rattle.cells.proofs.Rows.{taken, line-length}
 use Rattle.cells.proofs.Words.{in-table, mark-length, cell-length}
-use Rattle.listing.specs.Listing.{kindWord, headLine, recordLine}
+use Rattle.listing.specs.Listing.{kindWord, methodWord, objectWords, headLine, recordLine}
 use Rattle.listing.specs.Promise.{headMost, lineMost, enoughBytes}
 
 kind-length : (kind : Kind) → length (wordText (kindWord kind)) ≤ 7
@@ -23,12 +27,25 @@ kind-length Kind.Queue = omega arith
 kind-length Kind.Stack = omega arith
 kind-length Kind.Counter = omega arith
 
-pub head-length : (head : Head) (counts : Counts) → length (headLine head counts) ≤ headMost
+method-length : (method : Method) → length (wordText (methodWord method)) ≤ 3
+method-length CcSynch = omega arith
+method-length DsmSynch = omega arith
+
+-- a word that may stand there
+taken-if : (first : Bool) (word : List ℕ) (words : List (List ℕ)) → taken (cond first [] (word ∷ []) ++ words) ≤ length word + 1 + taken words
+unfolding taken
+taken-if true word words = omega arith
+taken-if false word words = omega arith
+
+pub head-length : (head : Head) (counts : Counts) → head .version < 10 → length (headLine head counts) ≤ headMost
 unfolding headLine taken
-head-length head counts =
+head-length head counts one-digit =
     rw line-length
     (omega (
       arith,
+      no-longer 9 0 (head .version) one-digit,
+      taken-if (eqb (head .version) 1) (wordText (methodWord (head .method))) (objectWords head counts),
+      method-length (head .method),
       kind-length (head .object),
       at-most 9 (head .n),
       at-most 9 (head .h),
@@ -59,7 +76,7 @@ line-most order bytes =
       cell-length (orHyphen noEntry (numberAt bytes 20 4)),
     ))
 
-pub listing-length : (head : Head) (counts : Counts) (records : List (List ℕ)) → length records ≤ mostCalls
+pub listing-length : (head : Head) (counts : Counts) (records : List (List ℕ)) → head .version < 10 → length records ≤ mostCalls
     → length (headLine head counts ++ numbered recordLine 0 records) ≤ enoughBytes
-listing-length head counts records few =
-    rw length-append (omega (arith, head-length head counts, numbered-most recordLine lineMost line-most 0 records))
+listing-length head counts records one-digit few =
+    rw length-append (omega (arith, head-length head counts one-digit, numbered-most recordLine lineMost line-most 0 records))

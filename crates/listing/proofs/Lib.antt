@@ -1,4 +1,5 @@
 pub mod Example
+pub mod Head
 pub mod Lengths
 pub mod Records
 pub mod Service

@@ -1,6 +1,7 @@
--- A record's line is its row in columns without a width, and shows its call. Assumes the claim, or fields in range.
+-- A record's line is its row in columns without a width, and shows its call. Assumes the claim, or fields in range whose run meets no null.
 use Prim.Native.Nat.{ℕ}
 use mathlib.Core.Path.{_≡_, ap, ap₂, _∙_}
+use mathlib.Core.Bool.{true}
 use mathlib.Core.List.{List, _++_, map}
 use lib.ListN.{replicate}
 use Rattle.bench_file.specs.Layout.{Fields}
@@ -8,10 +9,10 @@ use Rattle.bench_file.specs.Bytes.{InRange}
 use Rattle.machine.specs.declared.Event.the-variants.{CallBegins, Returns}
 use Rattle.history.specs.Entries.{Entry}
 use Rattle.history.specs.Terms.{Call, beganAt, returnedAt, recordOf, numberAt}
-use Rattle.claims.specs.Entries.{historyOf}
+use Rattle.claims.specs.Entries.{historyOf, clearOf}
 use Rattle.claims.specs.Claims.{Claimed}
 use Rattle.claims.proofs.Bytes.{began-bytes, returned-bytes}
-use Rattle.claims.proofs.Theorem.{claim-whole}
+use Rattle.dsm_claims.proofs.Either.{claim-whole}
 use Rattle.cells.specs.Text.{textLine}
 use Rattle.cells.specs.Cells.{cellText, Row, rowCells, timeCells, recordCells}
 use Rattle.cells.specs.Rows.{rowText}
@@ -38,6 +39,6 @@ call-shown order history c claim =
     ap (λ (row : Row). lineOf row (numberAt (recordOf history c) 16 4) (numberAt (recordOf history c) 20 4)) (row-shown order history c claim)
     ∙ ap₂ (lineOf (shownRow order history c)) (began-bytes history c (claim .numbers-fit c CallBegins)) (returned-bytes history c (claim .numbers-fit c Returns))
 
--- so in the run of fields in range: no condition is left
-pub run-shown : (f : Fields) → InRange f → (order : ℕ) (c : Call) → recordLine order (recordOf (historyOf f) c) ≡ shownLine order (historyOf f) c
-run-shown f fits order c = call-shown order (historyOf f) c (claim-whole f fits)
+-- so in the run of fields in range that meets no null
+pub run-shown : (f : Fields) → InRange f → clearOf f ≡ true → (order : ℕ) (c : Call) → recordLine order (recordOf (historyOf f) c) ≡ shownLine order (historyOf f) c
+run-shown f fits clear order c = call-shown order (historyOf f) c (claim-whole (f .head .method) f fits clear)

@@ -1,5 +1,6 @@
 -- Whole listings: of document 01's 64-byte file, with the two fields of request No. 1, of it cut to 20 entries (served and still open) and to 5, of a queue that
--- gives every answer, of a stack with request No. 3's counts, of two threads, and of no bytes.
+-- gives every answer, of a stack with request No. 3's counts, and of two threads; in version 2 of the 64-byte file by both methods, of three threads of DSM-Synch
+-- and of a run that meets null; and of no bytes.
 use Prim.Native.Nat.{ℕ}
 use mathlib.Core.List.{List, [], _∷_, _++_}
 use Rattle.cells.specs.Text.{text}
@@ -28,5 +29,16 @@ exampleListings =
     ∷ (text "CCS 1 queue n=2 h=1 calls=2 turns=2 blank=0 spin=1 remote=8\n"
     ++ text "0 0 0 done 1 0 0 4 returned 0 29\n"
     ++ text "1 1 0 value 7 1 1 4 returned 8 42\n")
+    ∷ (text "CCS 2 cc counter n=1 h=1 calls=2 turns=2 blank=0 spin=0 remote=3\n"
+    ++ text "0 0 0 value 0 0 0 3 returned 0 20\n"
+    ++ text "1 0 1 value 5 0 1 0 returned 21 41\n")
+    ∷ (text "CCS 2 dsm counter n=1 h=1 calls=2 turns=2 blank=4 spin=0 remote=4\n"
+    ++ text "0 0 0 value 0 0 0 2 returned 0 18\n"
+    ++ text "1 0 1 value 5 0 1 2 returned 19 37\n")
+    ∷ (text "CCS 2 dsm counter n=3 h=2 calls=3 turns=2 blank=0 spin=0 remote=18\n"
+    ++ text "0 0 0 value 0 0 0 13 returned 0 44\n"
+    ++ text "1 1 0 value 1 0 0 2 returned 8 47\n"
+    ++ text "2 2 0 value 11 2 1 3 returned 17 60\n")
+    ∷ text "refused 14\n"
     ∷ text "refused 1\n"
     ∷ []

@@ -9,9 +9,9 @@ use Rattle.cells.specs.declared.Printed.{Printed}
 use Rattle.cells.specs.Promise.{Gives}
 use Rattle.listing.specs.Listing.{listingOf}
 
--- how long a head line and a record's line are at most
+-- how long a head line, of a version with one digit, and a record's line are at most
 abbrev pub headMost : ℕ
-headMost = 125
+headMost = 129
 
 abbrev pub lineMost : ℕ
 lineMost = 114

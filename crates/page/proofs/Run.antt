@@ -1,8 +1,9 @@
--- The table of a file's run: each row shows a call whose fields fit their columns. Assumes fields in range.
+-- The table of a file's run: each row shows a call whose fields fit their columns. Assumes fields in range, and a run that meets no null.
 use Prim.Native.Nat.{ℕ, zero, suc, _+_, _^_, _≤_, _<_}
 use native.Mathlib.Nat.{zero-add, add-zero}
 use native.Mathlib.Omega.{arith}
 use mathlib.Core.Path.{_≡_, refl, ap, ap₂, _∙_}
+use mathlib.Core.Bool.{true}
 use mathlib.Core.List.{List, [], _∷_, map}
 use lib.ListN.{length, getD}
 use borrow.Author.Tests.{eq-eqb, ne-eqb}
@@ -18,10 +19,9 @@ use Rattle.machine.specs.declared.Event.the-variants.{Swaps, Applies}
 use Rattle.history.specs.Entries.{Entry, howMany}
 use Rattle.history.specs.Terms.{Call, noCall, callOf, swapOrder, swapAt, servings, shownOf, noThread, noTurn, costOf, returned, retValue, recordOf}
 use Rattle.history.proofs.Sums.{one-each}
-use Rattle.claims.specs.Entries.{historyOf}
+use Rattle.claims.specs.Entries.{historyOf, clearOf}
 use Rattle.claims.specs.Claims.{Claimed}
-use Rattle.claims.proofs.Room.{all-swaps-few}
-use Rattle.claims.proofs.Theorem.{claim-whole}
+use Rattle.dsm_claims.proofs.Either.{claim-whole, all-swaps-few}
 use Rattle.bench.proofs.Service.{Placed, placed}
 use Rattle.cells.specs.declared.Cell.{Cell}
 use Rattle.cells.specs.declared.Cell.the-variants.{Number}
@@ -86,12 +86,15 @@ unfolding indexed
 indexed-length g order [] = refl
 indexed-length g order (a ∷ l) = ap suc (indexed-length g (suc order) l)
 
-module _ (f : Fields) (fits : InRange f) where
+module _ (f : Fields) (fits : InRange f) (clear : clearOf f ≡ true) where
   abbrev history : List Entry
   history = historyOf f
 
   claim : Claimed f history
-  claim = claim-whole f fits
+  claim = claim-whole (f .head .method) f fits clear
+
+  few-swaps : howMany Swaps history ≤ 256
+  few-swaps = all-swaps-few (f .head .method) f fits clear
 
   -- the rows show the calls
   rows-show : pageRows f ≡ indexed (λ (order : ℕ) (c : Call). shownRow order history c) 0 (swapOrder history)
@@ -111,8 +114,8 @@ module _ (f : Fields) (fits : InRange f) where
   row-fits i b =
       let c = swapAt history i in
       let w = shownOf c (servings history) in
-      let there = each-getD (Placed f fits) (swapOrder history) i noCall (placed f fits) b in
-      let few : i < 256 = omega (arith, swapped, all-swaps-few f fits) in
+      let there = each-getD (Placed f fits clear) (swapOrder history) i noCall (placed f fits clear) b in
+      let few : i < 256 = omega (arith, swapped, few-swaps) in
       number-fits 2 i (omega arith) (omega arith)
       and number-fits 1 (c .thread .0) (omega (arith, there .0)) (omega (arith, there .0))
       and number-fits 1 (c .request) (omega (arith, there .1)) (omega (arith, there .1))
@@ -153,5 +156,5 @@ module _ (f : Fields) (fits : InRange f) where
   -- so many bytes are enough
   pub room : length (pagesText (pageRows f)) ≤ enoughForPages
   room =
-      let few : length (pageRows f) ≤ 256 = omega (arith, many-rows, all-swaps-few f fits) in
+      let few : length (pageRows f) ≤ 256 = omega (arith, many-rows, few-swaps) in
       omega (arith, table .long, five-pages (pageRows f) few)

@@ -16,7 +16,7 @@ use Rattle.machine.specs.declared.RetVal.{RetVal}
 use Rattle.machine.specs.declared.RetVal.the-variants as RetVal
 use Rattle.history.specs.Terms.{noThread, noTurn}
 use Rattle.cells.specs.declared.Word.{Word}
-use Rattle.cells.specs.declared.Word.the-variants.{Queue, Stack, Counter, Done, Value, Empty, Full, NoAnswer, Hyphen, Returned, Open}
+use Rattle.cells.specs.declared.Word.the-variants.{Queue, Stack, Counter, Done, Value, Empty, Full, NoAnswer, Hyphen, Returned, Open, Cc, Dsm}
 use Rattle.cells.specs.declared.Cell.{Cell}
 use Rattle.cells.specs.declared.Cell.the-variants.{Number, Says}
 use Rattle.cells.specs.Text.{text, spaces, decimal, lineEnd}
@@ -47,21 +47,21 @@ digits-unspaced (c ∷ l) p = rw (ne-eqb c 32 (λ e. omega (arith, p .0)), digit
 abbrev pub isVisible : ℕ → Bool
 isVisible c = leb 32 c && ltb c 127
 
--- what the first byte of a text tells: a digit that it is a number, else which word it is
+-- what a text tells: a digit in front that it is a number, else its first byte and its length which word it is
 abbrev pub isDigit : ℕ → Bool
 isDigit c = leb 48 c && leb c 57
 
-abbrev pub wordOf : ℕ → List Word → Word
-wordOf c [] = Hyphen
-wordOf c (word ∷ words) = cond (eqb c (getD (wordText word) 0 0)) word (wordOf c words)
+abbrev pub wordOf : List ℕ → List Word → Word
+wordOf l [] = Hyphen
+wordOf l (word ∷ words) = cond (eqb (getD l 0 0) (getD (wordText word) 0 0) && eqb (length l) (length (wordText word))) word (wordOf l words)
 
 abbrev pub words : List Word
-words = Queue ∷ Stack ∷ Counter ∷ Done ∷ Value ∷ Empty ∷ Full ∷ NoAnswer ∷ Hyphen ∷ Returned ∷ Open ∷ []
+words = Queue ∷ Stack ∷ Counter ∷ Done ∷ Value ∷ Empty ∷ Full ∷ NoAnswer ∷ Hyphen ∷ Returned ∷ Open ∷ Cc ∷ Dsm ∷ []
 
 abbrev pub cellOf : List ℕ → Cell
-cellOf l = cond (isDigit (getD l 0 0)) (Number (said 0 l)) (Says (wordOf (getD l 0 0) words))
+cellOf l = cond (isDigit (getD l 0 0)) (Number (said 0 l)) (Says (wordOf l words))
 
--- a word has no spaces, can be seen, and is told by its first byte
+-- a word has no spaces, can be seen, and is told
 pub record WordTold (word : Word) : Type 0 where
   pub visible : every isVisible (wordText word) ≡ true
   pub no-spaces : unspaced (wordText word) ≡ wordText word
@@ -79,6 +79,8 @@ word-told NoAnswer = record { visible = refl; no-spaces = refl; back = refl }
 word-told Hyphen = record { visible = refl; no-spaces = refl; back = refl }
 word-told Returned = record { visible = refl; no-spaces = refl; back = refl }
 word-told Open = record { visible = refl; no-spaces = refl; back = refl }
+word-told Cc = record { visible = refl; no-spaces = refl; back = refl }
+word-told Dsm = record { visible = refl; no-spaces = refl; back = refl }
 
 -- a cell is read back from its text
 small : (n : ℕ) → n < 2 ^ 32 → n < 10 ^ 10
@@ -196,4 +198,4 @@ unfolding pageRow rowText headRow zipWith
 head-apart row f e =
     let order = Number (row .order) in
     let column : inColumn 3 order ≡ text "no " = sym (take-at (inColumn 3 order) _ 3 (column-wide 3 order (f .0))) ∙ ap (take 3) e in
-    number-no-word (row .order) NoAnswer (sym (column-back 3 order (f .1)) ∙ ap (λ (l : List ℕ). cellOf (unspaced l)) column)
+    number-no-word (row .order) Hyphen (sym (column-back 3 order (f .1)) ∙ ap (λ (l : List ℕ). cellOf (unspaced l)) column)

@@ -1,5 +1,5 @@
 -- Whole pages: of document 01's 64-byte file, of it cut to 20 entries (served and still open), to 5 and to 4, of a queue that gives every answer, of a stack
--- with request No. 3's counts, and of two threads with h = 8 and h = 1; and the widest row.
+-- with request No. 3's counts, of two threads with h = 8 and h = 1, and of three threads of DSM-Synch; and the widest row.
 use Prim.Native.Nat.{ℕ}
 use mathlib.Core.Bool.{true}
 use mathlib.Core.List.{List, [], _∷_, _++_}
@@ -39,6 +39,10 @@ examplePages =
     ∷ (headPage
     ++ text "  0  0  0 done           1  0     0          4 returned\n"
     ++ text "  1  1  0 value          7  1     1          4 returned\n")
+    ∷ (headPage
+    ++ text "  0  0  0 value          0  0     0         13 returned\n"
+    ++ text "  1  1  0 value          1  0     0          2 returned\n"
+    ++ text "  2  2  0 value         11  2     1          3 returned\n")
     ∷ []
 
 -- every number as large as a result can have it

@@ -1,5 +1,4 @@
 // The pages of a file's run: a table in a fixed pitch.
-use bench_file::Judged;
 use cells::Printed;
 ghost use mathlib.Core.Bool.{cond};
 ghost use mathlib.Core.List.{[]};
@@ -64,18 +63,16 @@ fn print_run(records: &[u8], count: usize, out: &mut [u8]) -> Printed
     cells::give(&rows[..length], out)
 }
 
-// Prints the pages of any bytes as a bench file, under the file's own refusals; 13 where the buffer is too short for the rows of this run.
+// Prints the pages of any bytes as a bench file, under the file's own refusals, then 14 where its run meets null, and 13 where the buffer is too short for the
+// rows of this run. Its own buffer is enough for the records of every file, so that 13 is by the rows alone.
 pub fn page(file: &[u8], out: &mut [u8]) -> Printed
     ensures { λ r. ⌜ Prints (now (file .entry)) (now (out .entry)) (now (out .exit)) r ⌝ }
 {
     let mut records = [0u8; bench::ENOUGH_FOR_RECORDS];
     let answer = bench::run(file, &mut records);
-    match bench_file::judge(file) {
-        Judged::Accepted {
-            head: _,
-            requests: _,
-            entries: _,
-        } => print_run(&records, answer.counts.records as usize, out),
-        Judged::Refused(refusal) => Printed { refusal, length: 0 },
+    let refusal = answer.refusal;
+    if refusal != 0 {
+        return Printed { refusal, length: 0 };
     }
+    print_run(&records, answer.counts.records as usize, out)
 }

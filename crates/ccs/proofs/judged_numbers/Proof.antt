@@ -9,11 +9,8 @@ enum-known-judged c = search needs
 kind-number-requires : tie.Need-kind-number-requires
 kind-number-requires c κs = search needs
 
-cast-t8 : tie.Need-cast-t8
-cast-t8 c = search needs
-
-cast-t9 : tie.Need-cast-t9
-cast-t9 c = search needs
+method-number-requires : tie.Need-method-number-requires
+method-number-requires c κs = search needs
 
 cast-t10 : tie.Need-cast-t10
 cast-t10 c = search needs
@@ -21,14 +18,27 @@ cast-t10 c = search needs
 cast-t11 : tie.Need-cast-t11
 cast-t11 c = search needs
 
+cast-t12 : tie.Need-cast-t12
+cast-t12 c = search needs
+
+cast-t13 : tie.Need-cast-t13
+cast-t13 c = search needs
+
+cast-t14 : tie.Need-cast-t14
+cast-t14 c = search needs
+
+cast-t15 : tie.Need-cast-t15
+cast-t15 c = search needs
+
 enum-told : tie.Need-enum-told
 enum-told c = search needs
 
 -- an accepted file
 returns : tie.Need-returns
 returns c =
-    let named = c .before .before .before in
-    simp (named .before .before .judged .given .1, named .kind-number .ensures)
+    let method = c .before .before .before .before in
+    let named = method .before in
+    simp (named .before .before .judged .given .1, named .kind-number .ensures, method .method-number .ensures)
 
 returns-2 : tie.Need-returns-2
 returns-2 c = search needs
@@ -39,10 +49,13 @@ judged-numbers-spec =
     (tie.spec
     enum-known-judged
     kind-number-requires
-    cast-t8
-    cast-t9
+    method-number-requires
     cast-t10
     cast-t11
+    cast-t12
+    cast-t13
+    cast-t14
+    cast-t15
     enum-told
     returns
     returns-2)

@@ -53,7 +53,7 @@ returns : tie.Need-returns
 returns c =
     let lines = c .before .before .before .before .before .before in
     let a = start lines .args in
-    given (laid lines) (listing-length (a .head) (a .counts) (recordsLaid (a .count) (a .records .now)) (omega (arith, laid-count (a .count) (a .records .now), start lines .pre .1))) (c .before .before .give .ensures)
+    given (laid lines) (listing-length (a .head) (a .counts) (recordsLaid (a .count) (a .records .now)) (start lines .pre .2) (omega (arith, laid-count (a .count) (a .records .now), start lines .pre .1))) (c .before .before .give .ensures)
 
 pub list-run-spec : {M : Type 1} → statement M
 list-run-spec = tie.close (tie.spec slice-aggregate-put-head put-head-requires slice-aggregate-put-records put-records-requires array-share-prefix-words slice-aggregate-give give-requires same-length returns)
