@@ -364,7 +364,10 @@ fn check_entry(file: &Fields, before: &After, entry: u8, after: &After) -> Resul
         "a call begins no turn, spins or serves before Swap",
     )?;
     if swaps {
-        claim(own.is_none(), "a Swap is one of a thread without an open record")?;
+        claim(
+            own.is_none(),
+            "a Swap is one of a thread without an open record",
+        )?;
         check_swap(before, entry, after)?;
     }
     if begins {
