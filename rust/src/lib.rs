@@ -404,4 +404,20 @@ mod tests {
         assert_eq!((refusal, written), (6, 0));
         assert_eq!(out, [0xEE; RECORD_LENGTH - 1]);
     }
+
+    /// The same of a run that meets null, in which six calls came to their Swap.
+    #[test]
+    fn numbers_of_a_run_that_meets_null_are_0() {
+        let file = include_bytes!("../../examples/dsm_follows_null.bin");
+        let mut out = [0xEE; 6 * RECORD_LENGTH];
+        let mut counts = [u32::MAX; 5];
+        let (at, lent) = (out.as_mut_ptr(), out.len());
+        // SAFETY: as in `run` and `page`.
+        let ran = unsafe { border::ccs_run(file.as_ptr(), file.len(), at, lent, &mut counts) };
+        assert_eq!((ran, counts), (14, [0; 5]));
+        let mut written = usize::MAX;
+        let printed = unsafe { border::ccs_page(file.as_ptr(), file.len(), at, 0, &mut written) };
+        assert_eq!((printed, written), (14, 0));
+        assert_eq!(out, [0xEE; 6 * RECORD_LENGTH]);
+    }
 }
