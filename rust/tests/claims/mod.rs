@@ -243,7 +243,7 @@ fn check_costs(
             }
         }
     }
-    let sum: u64 = records.iter().map(|record| cost(record)).sum();
+    let sum: u64 = records.iter().map(cost).sum();
     claim(
         u64::from(counts.remote) == sum + before_swap(file, schedule, records),
         "the total is the records' costs and those of calls before their Swap",
