@@ -34,12 +34,12 @@ pub struct Record {
     pub request: u8,
     /// How it was served; none yet for a call that waits.
     pub serving: Option<Serving>,
-    /// The call's remote references so far. Of a returned call, at most 6 if another thread served it, and at most k + 5 if it had the
-    /// turn itself and served k.
+    /// The call's remote references so far. Of a returned call of CC-Synch, at most 6 if another thread served it, and at most k + 5 if it
+    /// had the turn itself and served k; of DSM-Synch, exactly 2 if another thread served it (1 if its Swap gave its own thread's other node).
     pub remote: u32,
     /// The number of the entry that ran the call's line 1: its place in the whole schedule, from 0.
     pub began: u32,
-    /// The number of the entry with which it returned, its line 11 or 21; none while it is open.
+    /// The number of the entry with which it returned, its line 11 or 21 of CC-Synch, 12, 24 or 28 of DSM-Synch; none while it is open.
     pub returned: Option<u32>,
 }
 

@@ -2,7 +2,7 @@
 use std::error::Error;
 use std::fmt;
 
-/// Why a file, its fields or a lent buffer is refused: the numbers 1 to 13, as in `include/ccs.h`.
+/// Why a file, its fields, its run or a lent buffer is refused: the numbers 1 to 15, as in `include/ccs.h`.
 ///
 /// ```
 /// let refusal = ccs::judge(&[0x43, 0x43, 0x54]).unwrap_err();
@@ -16,7 +16,7 @@ pub enum Refusal {
     CutOff,
     /// 2: the mark differs.
     Mark,
-    /// 3: the version is not 1.
+    /// 3: the version is neither 1 nor 2.
     Version,
     /// 4: the object is above 2.
     Object,
@@ -38,19 +38,23 @@ pub enum Refusal {
     Trailing,
     /// 13: the lent buffer is too short.
     Buffer,
-    /// A number outside 1 to 13. The library gives none; this package does not rely on that.
+    /// 14: in the run, a line would follow a null pointer or put one into tmpNode.
+    Null,
+    /// 15: the method is above 1; of given fields, also one other than 0 under version 1.
+    Method,
+    /// A number outside 1 to 15. The library gives none; this package does not rely on that.
     #[non_exhaustive]
     Unlisted(u8),
 }
 
 /// The listed refusals with their words.
-const TABLE: [(Refusal, &str); 13] = [
+const TABLE: [(Refusal, &str); 15] = [
     (
         Refusal::CutOff,
         "a field is cut off by the end, or a row is too short",
     ),
     (Refusal::Mark, "the mark differs"),
-    (Refusal::Version, "the version is not 1"),
+    (Refusal::Version, "the version is neither 1 nor 2"),
     (Refusal::Object, "the object is above 2"),
     (Refusal::Threads, "n is outside 1 to 16"),
     (Refusal::Bound, "h is 0"),
@@ -73,6 +77,14 @@ const TABLE: [(Refusal, &str); 13] = [
         "bytes follow the end, or a row is too long",
     ),
     (Refusal::Buffer, "the lent buffer is too short"),
+    (
+        Refusal::Null,
+        "in the run, a line would follow a null pointer or put one into tmpNode",
+    ),
+    (
+        Refusal::Method,
+        "the method is above 1, or other than 0 under version 1",
+    ),
 ];
 
 impl Refusal {
@@ -96,6 +108,8 @@ impl Refusal {
             Refusal::Entry => 11,
             Refusal::Trailing => 12,
             Refusal::Buffer => 13,
+            Refusal::Null => 14,
+            Refusal::Method => 15,
             Refusal::Unlisted(number) => number,
         }
     }

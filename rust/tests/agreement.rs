@@ -4,7 +4,7 @@ mod plain;
 
 use ccs::{Answer, Record, Refusal, ENOUGH_FOR_LISTING, ENOUGH_FOR_PAGES, ENOUGH_FOR_RECORDS};
 use ccs::{PAGE_RECORDS, RECORD_LENGTH, ROW_LENGTH};
-use inputs::{damaged, run_by_library, run_plainly, Given, Random};
+use inputs::{damaged, run_by_library, run_plainly, Given, Random, CC_SYNCH, DSM_SYNCH};
 use std::collections::BTreeSet;
 use std::fs;
 use std::path::{Path, PathBuf};
@@ -109,11 +109,11 @@ impl Lent {
         text.chunks(ROW_LENGTH).map(row).collect()
     }
 
-    /// Judged, run, listed and printed alike, with enough bytes lent.
+    /// Judged, run, listed and printed alike, with enough bytes lent: an accepted file's run may still meet null.
     fn agree(&mut self, file: &[u8]) -> Result<(), u8> {
-        let judged = judged(file);
         let ran = self.runs(file, ENOUGH_FOR_RECORDS);
-        assert_eq!(ran.map(|_| ()), judged);
+        let refused = ran.map(|_| ());
+        assert!(refused == judged(file) || refused == Err(14) && judged(file).is_ok());
         if let Ok([records, ..]) = ran {
             let bytes = &self.library[AROUND..][..RECORD_LENGTH * records as usize];
             assert_eq!(bytes, read_and_laid(bytes), "the records as they are read");
@@ -121,25 +121,31 @@ impl Lent {
         self.lists(file, ENOUGH_FOR_LISTING)
             .expect("the listing fits");
         let printed = self.pages(file, ENOUGH_FOR_PAGES);
-        assert_eq!(printed.map(|_| ()), judged);
+        assert_eq!(printed.map(|_| ()), refused);
         if let Ok(length) = printed {
             let text = &self.library[AROUND..][..length];
             assert!(text.chunks(ROW_LENGTH).all(is_row), "55 columns a row");
         }
-        judged
+        refused
     }
 }
 
 /// Judged alike.
 fn judged(file: &[u8]) -> Result<(), u8> {
-    let library = ccs::judge(file)
-        .map(|j| [j.object, j.n, j.h, j.capacity, j.requests, j.entries])
-        .map_err(Refusal::number);
+    let library = ccs::judge(file).map_err(Refusal::number).map(|j| {
+        let head = [j.version, j.object, j.n, j.h, j.capacity, j.method];
+        (head, [j.requests, j.entries])
+    });
     let plain = plain::judge(file).map(|j| {
-        [j.object, j.n, j.h, j.capacity, j.requests, j.entries].map(|number| number as usize)
+        let head = [j.version, j.object, j.n, j.h, j.capacity, j.method];
+        (head.map(as_usize), [j.requests, j.entries].map(as_usize))
     });
     assert_eq!(library, plain);
     library.map(|_| ())
+}
+
+fn as_usize(number: u32) -> usize {
+    number as usize
 }
 
 /// Records, each read and laid again.
@@ -209,13 +215,15 @@ fn short_files() -> Vec<Vec<u8>> {
     files
 }
 
-/// The longest file there is.
-fn longest() -> Given {
+/// The longest file of each version; that of version 2 is the longest there is.
+fn longest(version: u16) -> Given {
     Given {
+        version,
         object: 0,
         n: 16,
         h: 8,
         capacity: 64,
+        method: if version == 1 { CC_SYNCH } else { DSM_SYNCH },
         counts: vec![16; 16],
         requests: [0, 7, 0, 0, 0].repeat(256),
         schedule: vec![15; 32_768],
@@ -253,18 +261,31 @@ fn examples_print_as_expected() {
 
 const HEAD: &str = "no  th rq ans   value      by turn  remote     state   \n";
 
+/// How many entries a call takes that runs alone.
+fn entries_alone(method: u8) -> usize {
+    match method {
+        CC_SYNCH => 21,
+        _ => 19,
+    }
+}
+
 /// A counter's threads add 5, so many calls in all, one after the other.
-fn calls_in_a_row(calls: usize) -> Given {
+fn calls_in_a_row(method: u8, calls: usize) -> Given {
+    let alone = entries_alone(method);
     Given {
+        version: 2,
         object: 2,
         n: 16,
         h: 1,
         capacity: 0,
+        method,
         counts: (0..16)
             .map(|thread| calls.saturating_sub(16 * thread).min(16) as u8)
             .collect(),
         requests: [2, 5, 0, 0, 0].repeat(calls),
-        schedule: (0..21 * calls).map(|i| (i / (21 * 16)) as u8).collect(),
+        schedule: (0..alone * calls)
+            .map(|i| (i / (alone * 16)) as u8)
+            .collect(),
     }
 }
 
@@ -282,18 +303,24 @@ fn pages_of_so_many_records() {
         (256, 14_616),
     ];
     let mut lent = Lent::new();
-    for (records, length) in figures {
-        let file = calls_in_a_row(records).bytes();
-        let rows = lent.rows(&file);
-        assert_eq!(rows.concat().len(), length);
-        for (i, row) in rows.iter().enumerate() {
-            assert_eq!(*row == HEAD, i % (PAGE_RECORDS + 1) == 0);
+    for method in [CC_SYNCH, DSM_SYNCH] {
+        for (records, length) in figures {
+            let file = calls_in_a_row(method, records).bytes();
+            let rows = lent.rows(&file);
+            assert_eq!(rows.concat().len(), length);
+            for (i, row) in rows.iter().enumerate() {
+                assert_eq!(*row == HEAD, i % (PAGE_RECORDS + 1) == 0);
+            }
         }
     }
-    assert_eq!(
-        lent.rows(&calls_in_a_row(256).bytes()).last(),
-        Some(&"255 15 15 value       1275 15   255          0 returned\n")
-    );
+    let last_rows = [
+        "255 15 15 value       1275 15   255          0 returned\n",
+        "255 15 15 value       1275 15   255          2 returned\n",
+    ];
+    for (method, last) in [CC_SYNCH, DSM_SYNCH].into_iter().zip(last_rows) {
+        let file = calls_in_a_row(method, 256).bytes();
+        assert_eq!(lent.rows(&file).last(), Some(&last));
+    }
 }
 
 /// Numbers right, words and hyphens left: every answer and none, calls returned and open.
@@ -301,10 +328,12 @@ fn pages_of_so_many_records() {
 fn pages_as_stated() {
     let mut lent = Lent::new();
     let mut counter = Given {
+        version: 1,
         object: 2,
         n: 1,
         h: 1,
         capacity: 0,
+        method: CC_SYNCH,
         counts: vec![2],
         requests: vec![2, 5, 0, 0, 0, 2, 7, 0, 0, 0],
         schedule: vec![0; 42],
@@ -330,10 +359,12 @@ fn pages_as_stated() {
     assert_eq!(lent.rows(&counter.bytes()), [HEAD]);
 
     let queue = Given {
+        version: 1,
         object: 0,
         n: 1,
         h: 1,
         capacity: 1,
+        method: CC_SYNCH,
         counts: vec![4],
         requests: [
             [0, 3, 0, 0, 0],
@@ -363,10 +394,12 @@ fn items_held_are_counted() {
     let take = [1, 0, 0, 0, 0];
     for (object, [first, second, third]) in [(0, [9, 8, 6]), (1, [8, 6, 9])] {
         let file = Given {
+            version: 1,
             object,
             n: 1,
             h: 1,
             capacity: 2,
+            method: CC_SYNCH,
             counts: vec![8],
             requests: [put(9), put(8), put(7), take, put(6), take, take, take].concat(),
             schedule: vec![0; 8 * 21],
@@ -400,14 +433,17 @@ fn random_files() {
     let mut random = Random(0x5EED_0001);
     let mut lent = Lent::new();
     let mut accepted = 0;
-    let mut refusals = [0usize; 14];
+    let mut refusals = [0usize; 16];
     for i in 0..FILES {
         let most = match i % 1_000 {
             0 => 32_768,
             1..=20 => 2_000,
             _ => 150,
         };
-        let mut file = Given::random(&mut random, most).bytes();
+        let mut file = match i % 40 {
+            2 => meeting_null(&mut random).bytes(),
+            _ => Given::random(&mut random, most).bytes(),
+        };
         if random.one_in(3) {
             file = damaged(&mut random, file);
         }
@@ -427,24 +463,121 @@ fn random_files() {
     assert!(refusals[1..].iter().all(|&seen| seen > 20), "{refusals:?}");
 }
 
+/// Fields whose run meets null, some cut before that, and some with entries behind it.
+fn meeting_null(random: &mut Random) -> Given {
+    let mut given = Given::that_meets_null(random);
+    match random.below(4) {
+        0 => {
+            let length = random.below(given.schedule.len() + 1);
+            given.schedule.truncate(length);
+        }
+        1 => {
+            let more = random.below(40);
+            let entry = |_| random.below(given.n.into()) as u8;
+            given.schedule.extend((0..more).map(entry));
+        }
+        _ => {}
+    }
+    given
+}
+
+/// A run that meets null: 14, whatever follows, after 13, and on a page before it; `refused 14` where that fits; nothing is written. Each cut
+/// before it is accepted.
+#[test]
+fn null_is_refused() {
+    let mut random = Random(0x5EED_0006);
+    let mut lent = Lent::new();
+    for _ in 0..200 {
+        let mut given = Given::that_meets_null(&mut random);
+        let whole = given.schedule.clone();
+        let need = RECORD_LENGTH * given.calls();
+        for more in [0, 1, 30] {
+            given.schedule.resize(whole.len() + more, 0);
+            let file = given.bytes();
+            judged(&file).expect("a file in range");
+            for length in [0, 1, need - 1, need, need + 1, ENOUGH_FOR_RECORDS] {
+                let refusal = if length < need { 13 } else { 14 };
+                assert_eq!(lent.runs(&file, length), Err(refusal));
+            }
+            for length in [0, 1, ROW_LENGTH, ENOUGH_FOR_PAGES] {
+                assert_eq!(lent.pages(&file, length), Err(14));
+            }
+            for length in 0..14 {
+                let listed = if length < 11 { Err(13) } else { Ok(11) };
+                assert_eq!(lent.lists(&file, length), listed);
+            }
+            assert_eq!(&lent.library[AROUND..][..11], b"refused 14\n");
+        }
+        for cut in 0..whole.len() {
+            given.schedule = whole[..cut].to_vec();
+            lent.agree(&given.bytes()).expect("a cut before null");
+        }
+    }
+}
+
+/// A file of version 2 with method 0 gives the records, counts and pages of its twin of version 1, with any length lent, and its listing but for the
+/// head's first words.
+#[test]
+fn version_1_twins() {
+    let mut random = Random(0x5EED_0007);
+    let mut lent = Lent::new();
+    let mut files: Vec<Given> = example_files()
+        .iter()
+        .filter(|file| ccs::judge(file).is_ok_and(|judged| judged.version == 1))
+        .map(|file| Given::of(file))
+        .collect();
+    files.extend((0..20_000).map(|_| Given::random(&mut random, 150)));
+    for given in files {
+        let [one, two] = [1, 2].map(|version| Given {
+            version,
+            method: CC_SYNCH,
+            ..given.clone()
+        });
+        let room = match random.below(4) {
+            0 => random.below(RECORD_LENGTH * given.calls() + 1),
+            _ => ENOUGH_FOR_RECORDS,
+        };
+        let [one, two] = [one.bytes(), two.bytes()];
+        let text = |lent: &Lent, length| lent.library[AROUND..AROUND + length].to_vec();
+        let counts = lent.runs(&one, room);
+        let records = text(&lent, room);
+        assert_eq!(lent.runs(&two, room), counts);
+        assert!(text(&lent, room) == records);
+        let rows = lent.pages(&one, ENOUGH_FOR_PAGES).expect("enough bytes");
+        let page = text(&lent, rows);
+        assert_eq!(lent.pages(&two, ENOUGH_FOR_PAGES), Ok(rows));
+        assert!(text(&lent, rows) == page);
+        let length = lent.lists(&one, ENOUGH_FOR_LISTING).expect("enough bytes");
+        let listing = text(&lent, length);
+        let longer = length + b"cc ".len();
+        assert_eq!(lent.lists(&two, ENOUGH_FOR_LISTING), Ok(longer));
+        let expected = [b"CCS 2 cc".as_slice(), &listing[b"CCS 1".len()..]].concat();
+        assert!(text(&lent, longer) == expected);
+    }
+}
+
 /// Objects that fill up: every capacity, almost only puts, one call after the other.
 #[test]
 fn full_objects() {
     let mut random = Random(0x5EED_0004);
     let mut lent = Lent::new();
     for capacity in 1..=64 {
-        for object in [0, 1] {
+        for (object, method) in [(0, CC_SYNCH), (1, CC_SYNCH), (0, DSM_SYNCH), (1, DSM_SYNCH)] {
+            let alone = entries_alone(method);
             let given = Given {
                 object,
                 capacity,
+                method,
                 requests: (0..256u32)
                     .flat_map(|i| match random.below(20) {
                         0 => [1, 0, 0, 0, 0],
                         _ => [0, i as u8, (i >> 8) as u8, 0, 1],
                     })
                     .collect(),
-                schedule: (0..16 * 16 * 21).map(|i| (i / 21 % 16) as u8).collect(),
-                ..longest()
+                schedule: (0..16 * 16 * alone)
+                    .map(|i| (i / alone % 16) as u8)
+                    .collect(),
+                ..longest(2)
             };
             let file = given.bytes();
             lent.agree(&file).expect("a file in range");
@@ -462,28 +595,34 @@ fn full_objects() {
 /// A call at the end of the longest schedule, behind blanks: the highest numbers of entries.
 #[test]
 fn latest_call() {
-    let file = Given {
-        object: 2,
-        n: 2,
-        h: 1,
-        capacity: 0,
-        counts: vec![0, 1],
-        requests: vec![2, 5, 0, 0, 0],
-        schedule: [[0; 32_768 - 21].as_slice(), &[1; 21]].concat(),
+    for method in [CC_SYNCH, DSM_SYNCH] {
+        let blanks = 32_768 - entries_alone(method);
+        let file = Given {
+            version: 2,
+            object: 2,
+            n: 2,
+            h: 1,
+            capacity: 0,
+            method,
+            counts: vec![0, 1],
+            requests: vec![2, 5, 0, 0, 0],
+            schedule: (0..32_768).map(|i| u8::from(i >= blanks)).collect(),
+        }
+        .bytes();
+        Lent::new().agree(&file).expect("a file in range");
+        let mut out = [0; RECORD_LENGTH];
+        let counts = ccs::run(&file, &mut out).expect("enough bytes");
+        let record = ccs::records(&out, &counts).next().expect("a record");
+        let ends = (record.began, record.returned);
+        assert_eq!(ends, (blanks as u32, Some(32_767)));
     }
-    .bytes();
-    Lent::new().agree(&file).expect("a file in range");
-    let mut out = [0; RECORD_LENGTH];
-    let counts = ccs::run(&file, &mut out).expect("enough bytes");
-    let record = ccs::records(&out, &counts).next().expect("a record");
-    assert_eq!((record.began, record.returned), (32_747, Some(32_767)));
 }
 
 #[test]
 fn random_fields_written() {
     let mut random = Random(0x5EED_0002);
     let mut lent = Lent::new();
-    let mut refusals = [0usize; 14];
+    let mut refusals = [0usize; 16];
     for i in 0..200_000 {
         let mut given = Given::random(&mut random, if i % 100 == 0 { 3_000 } else { 60 });
         for _ in 0..[0, 0, 1, 1, 2, 3, 4][random.below(7)] {
@@ -493,7 +632,7 @@ fn random_fields_written() {
             let entry = random.below(18) as u8;
             given.schedule.resize(32_767 + random.below(4), entry);
         }
-        let length = 11 + given.counts.len() + given.requests.len() + given.schedule.len();
+        let length = given.length();
         let room = match random.below(8) {
             0 => random.below(length),
             _ => length + random.below(4),
@@ -507,7 +646,7 @@ fn random_fields_written() {
             Err(number) => refusals[usize::from(number)] += 1,
         }
     }
-    for number in [1, 4, 5, 6, 7, 8, 9, 10, 11, 12, 13] {
+    for number in [1, 3, 4, 5, 6, 7, 8, 9, 10, 11, 12, 13, 15] {
         assert!(refusals[number] > 20, "{refusals:?}");
     }
 }
@@ -518,7 +657,7 @@ fn accepted_files_written_back() {
     let mut random = Random(0x5EED_0005);
     let mut lent = Lent::new();
     let mut files = example_files();
-    files.push(longest().bytes());
+    files.extend([1, 2].map(|version| longest(version).bytes()));
     for i in 0..40_000 {
         let most = if i % 100 == 0 { 3_000 } else { 60 };
         let file = Given::random(&mut random, most).bytes();
@@ -545,22 +684,24 @@ fn accepted_files_written_back() {
 /// One field out of range, or one row too short or too long.
 fn spoil(random: &mut Random, given: &mut Given) {
     let some = 1 + random.below(6);
-    match random.below(10) {
-        0 => given.object = random.byte(),
-        1 => given.n = random.byte(),
-        2 => given.h = 0,
-        3 => given.capacity = random.byte(),
-        4 => given.counts.truncate(given.counts.len().saturating_sub(1)),
-        5 => given.counts.push(random.below(20) as u8),
-        6 if !given.counts.is_empty() => {
+    match random.below(13) {
+        0 => given.version = [0, 1, 2, 3, 257, 258, 512, 65_535][random.below(8)],
+        1 => given.object = random.byte(),
+        2 => given.n = random.byte(),
+        3 => given.h = 0,
+        4 => given.capacity = random.byte(),
+        5 => given.method = [0, 1, 2, 255][random.below(4)],
+        6 => given.counts.truncate(given.counts.len().saturating_sub(1)),
+        7 => given.counts.push(random.below(20) as u8),
+        8 if !given.counts.is_empty() => {
             let place = random.below(given.counts.len());
             given.counts[place] = random.below(20) as u8;
         }
-        7 => given
+        9 => given
             .requests
             .truncate(given.requests.len().saturating_sub(some)),
-        8 => given.requests.extend(vec![1; some]),
-        9 if !given.requests.is_empty() => {
+        10 => given.requests.extend(vec![1; some]),
+        11 if !given.requests.is_empty() => {
             let place = random.below(given.requests.len());
             given.requests[place] = random.below(4) as u8;
         }
@@ -576,10 +717,12 @@ fn every_truncation() {
             let _ = lent.agree(&file[..length]);
         }
     }
-    let file = longest().bytes();
-    assert_eq!(file.len(), 34_075);
-    for length in 0..=file.len() {
-        assert_eq!(judged(&file[..length]).is_ok(), length == file.len());
+    for (version, length) in [(1, 34_075), (2, 34_076)] {
+        let file = longest(version).bytes();
+        assert_eq!(file.len(), length);
+        for length in 0..=file.len() {
+            assert_eq!(judged(&file[..length]).is_ok(), length == file.len());
+        }
     }
 }
 
@@ -638,7 +781,7 @@ fn every_lent_length() {
 #[test]
 fn large_lengths() {
     let mut lent = Lent::new();
-    let file = longest().bytes();
+    let file = longest(2).bytes();
     for more in [65_536 - 12, 65_536, 1 << 20] {
         let mut longer = file.clone();
         longer.resize(file.len() + more, 0);
@@ -655,6 +798,6 @@ fn large_lengths() {
         lent.runs(&file, length).expect("enough bytes");
         lent.lists(&file, length).expect("enough bytes");
         lent.pages(&file, length).expect("enough bytes");
-        lent.writes(&longest(), length).expect("enough bytes");
+        lent.writes(&longest(2), length).expect("enough bytes");
     }
 }

@@ -1,26 +1,24 @@
-//! The bounds on the remote references of a returned call are reached: 6 where another thread served it, and k + 5 where it combined and served k,
+//! The bounds on the remote references of a returned call of CC-Synch are reached: 6 where another thread served it, and k + 5 where it combined and served k,
 //! for every k from 1 to 239. By the library, beside the plain Rust implementation.
 mod inputs;
 mod plain;
 
 use ccs::{Record, ENOUGH_FOR_RECORDS};
-use inputs::{run_by_library, run_plainly, Given};
-
-/// A stretch of a schedule: a thread, and how many entries name it.
-type Stretch = (u8, usize);
+use inputs::{run_by_library, run_plainly, stretched, Given, Stretch, CC_SYNCH};
 
 /// A counter to which each thread adds 1 as often as its count says.
 fn counter(h: u8, counts: Vec<u8>, schedule: &[Stretch]) -> Given {
     let calls = counts.iter().map(|&count| usize::from(count)).sum();
-    let stretch = |&(thread, entries): &Stretch| vec![thread; entries];
     Given {
+        version: 1,
         object: 2,
         n: counts.len() as u8,
         h,
         capacity: 0,
+        method: CC_SYNCH,
         counts,
         requests: [2, 1, 0, 0, 0].repeat(calls),
-        schedule: schedule.iter().flat_map(stretch).collect(),
+        schedule: stretched(schedule),
     }
 }
 

@@ -23,24 +23,28 @@ static uint32_t number(const uint8_t *at)
     return at[0] | (uint32_t)at[1] << 8 | (uint32_t)at[2] << 16 | (uint32_t)at[3] << 24;
 }
 
-/* A counter with two threads that add 5 and 7, h = 3, and 42 entries: thread 0, then thread 1. */
+/* A counter with two threads that add 5 and 7, h = 3, and 42 entries: thread 0, then thread 1. Version 1, and version 2 with DSM-Synch. */
 static uint8_t file[65];
 static const size_t file_length = sizeof file;
+static uint8_t dsm_file[66];
 
-static void lay_file(void)
+static void lay_files(void)
 {
     static const uint8_t start[23] = {'C', 'C', 'S', 1, 0, 2, 2, 3, 0, 1, 2, 5, 0, 0, 0, 1, 2, 7, 0, 0, 0, 42, 0};
     memcpy(file, start, sizeof start);
     memset(file + 23, 0, 21);
     memset(file + 44, 1, 21);
+    memcpy(dsm_file, file, 9);
+    dsm_file[3] = 2;
+    dsm_file[9] = 1;
+    memcpy(dsm_file + 10, file + 9, sizeof file - 9);
 }
 
-/* The file with one byte changed, or cut, or with a byte more. */
-static void refused(const char *name, size_t place, uint8_t byte, size_t length, uint8_t expected)
+/* One of the files with one byte changed, or cut, or with a byte more. */
+static void refused(const char *name, const uint8_t *whole, size_t place, uint8_t byte, size_t length, uint8_t expected)
 {
-    uint8_t changed[sizeof file + 1];
-    memcpy(changed, file, sizeof file);
-    changed[sizeof file] = 0;
+    uint8_t changed[sizeof dsm_file + 1] = {0};
+    memcpy(changed, whole, whole == file ? sizeof file : sizeof dsm_file);
     changed[place] = byte;
 
     size_t numbers[CCS_JUDGED_NUMBERS];
@@ -77,25 +81,31 @@ static void refused(const char *name, size_t place, uint8_t byte, size_t length,
 
 static void refused_files(void)
 {
-    const size_t end = sizeof file;
-    refused("cut off", 0, 'C', end - 1, CCS_REFUSED_CUT_OFF);
-    refused("mark", 2, 'T', end, CCS_REFUSED_MARK);
-    refused("version", 3, 2, end, CCS_REFUSED_VERSION);
-    refused("object", 5, 3, end, CCS_REFUSED_OBJECT);
-    refused("threads", 6, 17, end, CCS_REFUSED_THREADS);
-    refused("bound", 7, 0, end, CCS_REFUSED_BOUND);
-    refused("capacity", 8, 1, end, CCS_REFUSED_CAPACITY);
-    refused("count", 9, 17, end, CCS_REFUSED_COUNT);
-    refused("request", 10, 0, end, CCS_REFUSED_REQUEST);
-    refused("schedule length", 22, 128, end, CCS_REFUSED_SCHEDULE_LENGTH);
-    refused("entry", 30, 2, end, CCS_REFUSED_ENTRY);
-    refused("trailing", 0, 'C', end + 1, CCS_REFUSED_TRAILING);
+    const size_t end = sizeof file, dsm_end = sizeof dsm_file;
+    refused("cut off", file, 0, 'C', end - 1, CCS_REFUSED_CUT_OFF);
+    refused("mark", file, 2, 'T', end, CCS_REFUSED_MARK);
+    refused("version", file, 3, 3, end, CCS_REFUSED_VERSION);
+    refused("object", file, 5, 3, end, CCS_REFUSED_OBJECT);
+    refused("threads", file, 6, 17, end, CCS_REFUSED_THREADS);
+    refused("bound", file, 7, 0, end, CCS_REFUSED_BOUND);
+    refused("capacity", file, 8, 1, end, CCS_REFUSED_CAPACITY);
+    refused("count", file, 9, 17, end, CCS_REFUSED_COUNT);
+    refused("request", file, 10, 0, end, CCS_REFUSED_REQUEST);
+    refused("schedule length", file, 22, 128, end, CCS_REFUSED_SCHEDULE_LENGTH);
+    refused("entry", file, 30, 2, end, CCS_REFUSED_ENTRY);
+    refused("trailing", file, 0, 'C', end + 1, CCS_REFUSED_TRAILING);
+    refused("method", dsm_file, 9, 2, dsm_end, CCS_REFUSED_METHOD);
+    refused("method cut off", dsm_file, 9, 1, 9, CCS_REFUSED_CUT_OFF);
+    refused("high byte of the version", dsm_file, 4, 1, dsm_end, CCS_REFUSED_VERSION);
+    refused("trailing", dsm_file, 9, 1, dsm_end + 1, CCS_REFUSED_TRAILING);
 }
 
 static void accepted(void)
 {
     size_t numbers[CCS_JUDGED_NUMBERS];
     same("judged", ccs_judge(file, file_length, numbers), CCS_ACCEPTED);
+    same("version", numbers[CCS_JUDGED_VERSION], 1);
+    same("method", numbers[CCS_JUDGED_METHOD], 0);
     same("object", numbers[CCS_JUDGED_OBJECT], 2);
     same("n", numbers[CCS_JUDGED_N], 2);
     same("h", numbers[CCS_JUDGED_H], 3);
@@ -140,6 +150,72 @@ static void accepted(void)
     same("spinning return", number(out + CCS_RECORD_LENGTH + 20), 4294967295);
 }
 
+/* DSM-Synch: a call alone takes 19 entries, and its Swap and its CAS are remote. */
+static void accepted_dsm(void)
+{
+    size_t numbers[CCS_JUDGED_NUMBERS];
+    same("judged", ccs_judge(dsm_file, sizeof dsm_file, numbers), CCS_ACCEPTED);
+    same("version", numbers[CCS_JUDGED_VERSION], 2);
+    same("capacity", numbers[CCS_JUDGED_CAPACITY], 0);
+    same("method", numbers[CCS_JUDGED_METHOD], 1);
+    same("requests", numbers[CCS_JUDGED_REQUESTS], 2);
+    same("entries", numbers[CCS_JUDGED_ENTRIES], 42);
+
+    uint8_t out[2 * CCS_RECORD_LENGTH];
+    uint32_t counts[CCS_RUN_COUNTS];
+    same("run", ccs_run(dsm_file, sizeof dsm_file, out, sizeof out, counts), CCS_ACCEPTED);
+    same("records", counts[CCS_RUN_RECORDS], 2);
+    same("turns", counts[CCS_RUN_TURNS], 2);
+    same("blanks", counts[CCS_RUN_BLANKS], 4);
+    same("spins", counts[CCS_RUN_SPINS], 0);
+    same("remote", counts[CCS_RUN_REMOTE], 4);
+    same("first return", number(out + 20), 18);
+    same("second cost", number(out + CCS_RECORD_LENGTH + 8), 2);
+    same("second value", number(out + CCS_RECORD_LENGTH + 4), 5);
+}
+
+/* The run whose last entry would follow a null pointer (docs/DSM-SYNCH.md): three threads with 1, 3 and 2 adds, h = 2, 106 entries. */
+static void follows_null(void)
+{
+    static const uint8_t stretches[11][2] = {{0, 8}, {1, 9}, {2, 9}, {0, 17}, {1, 3}, {2, 13}, {1, 27}, {2, 9}, {1, 9}, {0, 1}, {1, 1}};
+    static const uint8_t counts_row[3] = {1, 3, 2};
+    uint8_t requests[6 * 5] = {0}, schedule[106], run[200];
+    size_t entries = 0, length = 0;
+    for (size_t i = 0; i < 6; i++)
+        requests[5 * i] = 2;
+    for (size_t i = 0; i < 11; i++) {
+        memset(schedule + entries, stretches[i][0], stretches[i][1]);
+        entries += stretches[i][1];
+    }
+    same("written", ccs_write(2, 2, 3, 2, 0, 1, counts_row, 3, requests, sizeof requests, schedule, entries, run, sizeof run, &length), CCS_ACCEPTED);
+    same("written", length, 151);
+
+    uint8_t out[6 * CCS_RECORD_LENGTH];
+    uint32_t counts[CCS_RUN_COUNTS];
+    memset(out, PATTERN, sizeof out);
+    memset(counts, PATTERN, sizeof counts);
+    same("short run", ccs_run(run, length, out, sizeof out - 1, counts), CCS_REFUSED_BUFFER);
+    same("null", ccs_run(run, length, out, sizeof out, counts), CCS_REFUSED_NULL);
+    for (size_t i = 0; i < sizeof out; i++)
+        same("null", out[i], PATTERN);
+    for (int i = 0; i < CCS_RUN_COUNTS; i++)
+        same("null", counts[i], 0);
+
+    size_t told = 99;
+    same("page", ccs_page(run, length, out, 0, &told), CCS_REFUSED_NULL);
+    same("page", told, 0);
+    uint8_t text[CCS_ENOUGH_FOR_LISTING];
+    same("text", ccs_list(run, length, text, sizeof text, &told), CCS_ACCEPTED);
+    same("text", told, 11);
+    same("text", memcmp(text, "refused 14\n", 11) != 0, 0);
+
+    same("cut", ccs_write(2, 2, 3, 2, 0, 1, counts_row, 3, requests, sizeof requests, schedule, 105, run, sizeof run, &length), CCS_ACCEPTED);
+    same("cut", ccs_run(run, length, out, sizeof out, counts), CCS_ACCEPTED);
+    same("cut", counts[CCS_RUN_RECORDS], 6);
+    same("cut", counts[CCS_RUN_REMOTE], 24);
+    same("page", ccs_page(run, length, out, 0, &told), CCS_REFUSED_BUFFER);
+}
+
 /* A stack of capacity 2, one thread that puts 9, 8 and 7: two counts of items held, and a full without one. */
 static void counted(void)
 {
@@ -174,16 +250,23 @@ static void written(void)
     uint8_t out[sizeof file + 1];
     size_t length = 99;
     memset(out, PATTERN, sizeof out);
-    same("short file", ccs_write(2, 2, 3, 0, counts, 2, requests, 10, file + 23, 42, out, sizeof file - 1, &length), CCS_REFUSED_BUFFER);
+    same("short file", ccs_write(1, 2, 2, 3, 0, 0, counts, 2, requests, 10, file + 23, 42, out, sizeof file - 1, &length), CCS_REFUSED_BUFFER);
     same("short file", length, 0);
     same("short file", out[0], PATTERN);
-    same("h", ccs_write(2, 2, 0, 0, counts, 2, requests, 10, file + 23, 42, out, sizeof out, &length), CCS_REFUSED_BOUND);
-    same("counts", ccs_write(2, 2, 3, 0, counts, 1, requests, 10, file + 23, 42, out, sizeof out, &length), CCS_REFUSED_CUT_OFF);
-    same("requests", ccs_write(2, 1, 3, 0, counts, 1, requests, 10, file + 23, 42, out, sizeof out, &length), CCS_REFUSED_TRAILING);
-    same("file", ccs_write(2, 2, 3, 0, counts, 2, requests, 10, file + 23, 42, out, sizeof out, &length), CCS_ACCEPTED);
+    same("h", ccs_write(1, 2, 2, 0, 0, 0, counts, 2, requests, 10, file + 23, 42, out, sizeof out, &length), CCS_REFUSED_BOUND);
+    same("counts", ccs_write(1, 2, 2, 3, 0, 0, counts, 1, requests, 10, file + 23, 42, out, sizeof out, &length), CCS_REFUSED_CUT_OFF);
+    same("requests", ccs_write(1, 2, 1, 3, 0, 0, counts, 1, requests, 10, file + 23, 42, out, sizeof out, &length), CCS_REFUSED_TRAILING);
+    same("file", ccs_write(1, 2, 2, 3, 0, 0, counts, 2, requests, 10, file + 23, 42, out, sizeof out, &length), CCS_ACCEPTED);
     same("file", length, sizeof file);
     same("file", memcmp(out, file, sizeof file) != 0, 0);
     same("behind the file", out[sizeof file], PATTERN);
+
+    same("version", ccs_write(257, 2, 2, 3, 0, 0, counts, 2, requests, 10, file + 23, 42, out, sizeof out, &length), CCS_REFUSED_VERSION);
+    same("method", ccs_write(1, 2, 2, 3, 0, 1, counts, 2, requests, 10, file + 23, 42, out, sizeof out, &length), CCS_REFUSED_METHOD);
+    same("method", ccs_write(2, 2, 2, 3, 0, 2, counts, 2, requests, 10, file + 23, 42, out, sizeof out, &length), CCS_REFUSED_METHOD);
+    same("version 2", ccs_write(2, 2, 2, 3, 0, 1, counts, 2, requests, 10, file + 23, 42, out, sizeof out, &length), CCS_ACCEPTED);
+    same("version 2", length, sizeof dsm_file);
+    same("version 2", memcmp(out, dsm_file, sizeof dsm_file) != 0, 0);
 }
 
 static void listed(void)
@@ -198,6 +281,8 @@ static void listed(void)
     same("text", memcmp(text, "CCS 1 counter n=2 h=3 calls=2 turns=2 ", 38) != 0, 0);
     same("last byte", text[length - 1], '\n');
     same("behind the text", text[length], PATTERN);
+    same("text", ccs_list(dsm_file, sizeof dsm_file, text, sizeof text, &length), CCS_ACCEPTED);
+    same("text", memcmp(text, "CCS 2 dsm counter n=2 h=3 calls=2 turns=2 ", 42) != 0, 0);
 }
 
 static void printed(void)
@@ -244,9 +329,11 @@ static void most_rows(void)
 
 int main(void)
 {
-    lay_file();
+    lay_files();
     refused_files();
     accepted();
+    accepted_dsm();
+    follows_null();
     counted();
     most_records();
     written();

@@ -1,20 +1,20 @@
-//! Every schedule of small files, and some of random files: the library beside the plain Rust implementation, and the claims on what the library
-//! returns, after every cut.
+//! Every schedule of small files of both methods, and some of random files: the library beside the plain Rust implementation, and the claims on what
+//! the library returns, after every cut; of a run that meets null, after every cut before that.
 mod claims;
 mod inputs;
 mod plain;
 
 use ccs::{Counts, RECORD_LENGTH};
 use claims::{check_start, check_step, After, RecordBytes};
-use inputs::{run_by_library, run_plainly, Given, Random};
+use inputs::{run_by_library, run_plainly, Given, Random, CC_SYNCH, DSM_SYNCH};
 
-/// All schedules of so many entries or fewer are run, for two threads and for three.
-const TWO_THREADS: usize = 18;
-const THREE_THREADS: usize = 11;
+/// All schedules of so many entries or fewer are run, for two threads and for three; of DSM-Synch from the Swaps on.
+const TWO_THREADS: usize = 17;
+const THREE_THREADS: usize = 10;
 
 /// All beginnings of so many entries are completed, for two threads and for three, and so many entries for each call complete them.
-const TWO_BEGIN: usize = 10;
-const THREE_BEGIN: usize = 6;
+const TWO_BEGIN: usize = 9;
+const THREE_BEGIN: usize = 5;
 const COMPLETING: usize = 50;
 
 /// One file, its schedule so far, and what the library returned for each cut of it.
@@ -37,14 +37,26 @@ impl Walk {
             returned: 0,
         };
         assert!(walk.given.schedule.is_empty());
-        let cut = walk.run();
+        let cut = walk.run().expect("a file in range");
         walk.cuts.push(cut);
         check_start(&walk.given.fields(), &walk.after(0)).expect("the claims at the start");
         walk
     }
 
-    /// Runs the schedule so far by the library and by the plain implementation.
-    fn run(&self) -> (Counts, Vec<RecordBytes>) {
+    /// The same, in DSM-Synch with every thread's first call before its Swap: up to there a call touches nothing that another thread does.
+    fn from_swap(given: Given) -> Walk {
+        let mut walk = Walk::new(given);
+        if walk.given.method == DSM_SYNCH {
+            for entry in 0..6 * walk.given.n {
+                walk.push(entry / 6);
+            }
+            walk.checked = 0;
+        }
+        walk
+    }
+
+    /// Runs the schedule so far by the library and by the plain implementation: what is returned, or a refusal.
+    fn run(&self) -> Result<(Counts, Vec<RecordBytes>), u8> {
         let file = self.given.bytes();
         let mut out = vec![0x5A; RECORD_LENGTH * self.calls];
         let mut plainly = out.clone();
@@ -56,7 +68,7 @@ impl Walk {
             self.given
         );
         assert_eq!(out, plainly, "{:?}", self.given);
-        let [records, turns, blanks, spins, remote] = numbers.expect("a file in range");
+        let [records, turns, blanks, spins, remote] = numbers?;
         let counts = Counts {
             records,
             turns,
@@ -67,12 +79,12 @@ impl Walk {
         let records = out
             .chunks_exact(RECORD_LENGTH)
             .take(counts.records as usize);
-        (
+        Ok((
             counts,
             records
                 .map(|bytes| bytes.try_into().expect("a record's length"))
                 .collect(),
-        )
+        ))
     }
 
     fn after(&self, cut: usize) -> After<'_> {
@@ -84,10 +96,17 @@ impl Walk {
         }
     }
 
-    /// One entry more, checked.
-    fn push(&mut self, entry: u8) {
+    /// One entry more, checked: whether it is accepted. One that is not meets null, and is left out.
+    fn takes(&mut self, entry: u8) -> bool {
         self.given.schedule.push(entry);
-        let cut = self.run();
+        let cut = match self.run() {
+            Ok(cut) => cut,
+            Err(refusal) => {
+                assert_eq!((refusal, self.given.method), (14, DSM_SYNCH));
+                self.given.schedule.pop();
+                return false;
+            }
+        };
         self.cuts.push(cut);
         let last = self.cuts.len() - 1;
         let checked = check_step(
@@ -99,6 +118,12 @@ impl Walk {
             panic!("{claim}: {:?}", self.given);
         }
         self.checked += 1;
+        true
+    }
+
+    /// One entry more, which does not meet null.
+    fn push(&mut self, entry: u8) {
+        assert!(self.takes(entry), "{entry} after {:?}", self.given);
     }
 
     fn pop(&mut self) {
@@ -148,10 +173,12 @@ const ADD_MOST: [u8; 5] = [2, 255, 255, 255, 255];
 /// A small file: of capacity 1, so that a second put is full.
 fn small(object: u8, h: u8, counts: &[u8], requests: &[[u8; 5]]) -> Given {
     Given {
+        version: 1,
         object,
         n: counts.len() as u8,
         h,
         capacity: if object == 2 { 0 } else { 1 },
+        method: CC_SYNCH,
         counts: counts.to_vec(),
         requests: requests.concat(),
         schedule: Vec::new(),
@@ -190,10 +217,21 @@ fn two_items() -> Vec<Given> {
     ]
 }
 
+/// The files, and the same of DSM-Synch.
+fn by_both_methods(files: Vec<Given>) -> Vec<Given> {
+    let by_dsm_synch = |given: &Given| Given {
+        version: 2,
+        method: DSM_SYNCH,
+        ..given.clone()
+    };
+    let others: Vec<Given> = files.iter().map(by_dsm_synch).collect();
+    [files, others].concat()
+}
+
 #[test]
 fn two_threads_one_request_each() {
-    for given in two_threads() {
-        let mut walk = Walk::new(given);
+    for given in by_both_methods(two_threads()) {
+        let mut walk = Walk::from_swap(given);
         walk.every(TWO_THREADS, &mut |_| {});
         assert_eq!(walk.checked, (1 << (TWO_THREADS + 1)) - 2);
     }
@@ -201,19 +239,22 @@ fn two_threads_one_request_each() {
 
 #[test]
 fn three_threads_one_request_each() {
-    let mut walk = Walk::new(more_threads_or_requests().swap_remove(0));
-    walk.every(THREE_THREADS, &mut |_| {});
-    assert_eq!(walk.checked, (3usize.pow(THREE_THREADS as u32 + 1) - 3) / 2);
+    for given in by_both_methods(vec![more_threads_or_requests().swap_remove(0)]) {
+        let mut walk = Walk::from_swap(given);
+        walk.every(THREE_THREADS, &mut |_| {});
+        assert_eq!(walk.checked, (3usize.pow(THREE_THREADS as u32 + 1) - 3) / 2);
+    }
 }
 
 #[test]
 fn every_beginning_completed() {
-    for given in [two_threads(), more_threads_or_requests(), two_items()].concat() {
+    let files = [two_threads(), more_threads_or_requests(), two_items()].concat();
+    for given in by_both_methods(files) {
         let begin = if given.n == 2 { TWO_BEGIN } else { THREE_BEGIN };
         let beginnings = usize::from(given.n).pow(begin as u32);
-        let mut walk = Walk::new(given);
+        let mut walk = Walk::from_swap(given);
         walk.every(begin, &mut |walk| {
-            for burst in [1, 30] {
+            for burst in [1, 16] {
                 walk.complete(burst, 0);
                 walk.complete(burst, 1);
             }
@@ -239,4 +280,32 @@ fn random_files_cut_everywhere() {
     }
     assert!(checked > 100_000, "{checked} cuts");
     assert!(returned > 1_500, "{returned} calls returned");
+}
+
+/// Runs of DSM-Synch that meet null: every cut before that is as claimed, also with other entries in the last one's place, and every longer schedule
+/// is refused as well.
+#[test]
+fn up_to_null() {
+    let mut random = Random(0x5EED_0008);
+    for _ in 0..200 {
+        let mut given = Given::that_meets_null(&mut random);
+        let mut schedule = std::mem::take(&mut given.schedule);
+        let last = schedule.pop().expect("an entry");
+        let mut walk = Walk::new(given);
+        for entry in schedule {
+            walk.push(entry);
+        }
+        assert!(!walk.takes(last), "{:?}", walk.given);
+        for _ in 0..60 {
+            let others = (0..walk.given.n).filter(|&entry| entry != last);
+            let entry = others.collect::<Vec<u8>>()[random.below(usize::from(walk.given.n) - 1)];
+            walk.push(entry);
+        }
+        assert!(!walk.takes(last), "{:?}", walk.given);
+        walk.given.schedule.push(last);
+        for entry in 0..walk.given.n {
+            walk.given.schedule.push(entry);
+            assert_eq!(walk.run(), Err(14));
+        }
+    }
 }

@@ -1,5 +1,5 @@
-//! Demand 3 of document 01 and what requests No. 1, 3 and 5 of document 02 make of it, so far as they can be seen
-//! from outside: evaluated on the records and counts that a bench returns for every cut of one schedule,
+//! Demand 3 of document 01 and what requests No. 1, 3, 5 and 6 of document 02 make of it, for both methods, so far as they can be seen
+//! from outside: evaluated on the records and counts that a bench returns for every cut of one schedule that is not refused,
 //! on the cuts themselves, and on the file's fields alone.
 
 use ccs::{Counts, Fields, RECORD_LENGTH};
@@ -9,6 +9,9 @@ pub type RecordBytes = [u8; RECORD_LENGTH];
 
 /// Bytes 20 to 23 of the record of an open call.
 const OPEN: usize = 4_294_967_295;
+
+/// The method's number of DSM-Synch.
+const DSM_SYNCH: u8 = 1;
 
 /// A schedule cut to some length, and what the bench returned for it. The file's own schedule is not read.
 #[derive(Debug, PartialEq, Eq, Clone, Copy)]
@@ -36,7 +39,7 @@ pub fn check_step(file: &Fields, before: &After, after: &After) -> Result<(), St
     };
     claim(before.schedule == earlier, "the cut has one entry more")?;
     check_cut(file, after)?;
-    check_counts(before, after)?;
+    check_counts(file, before, after)?;
     check_records(before, entry, after)?;
     check_entry(file, before, entry, after)
 }
@@ -225,49 +228,75 @@ fn check_turns(file: &Fields, counts: &Counts, records: &[RecordBytes]) -> Resul
     )
 }
 
-/// The bounds on a returned call, and what the total is beside the records' costs.
+/// What a returned call costs, by the file's method, and what the total is beside the records' costs.
 fn check_costs(
     file: &Fields,
     schedule: &[u8],
     counts: &Counts,
     records: &[RecordBytes],
 ) -> Result<(), String> {
-    let mut sum = 0;
     for (i, record) in records.iter().enumerate() {
-        sum += u64::from(number(record, 8));
-        if returned(record) && record[3] == record[0] {
-            let k = records[i..]
-                .iter()
-                .take_while(|other| turn(other) == turn(record))
-                .count();
-            claim(
-                number(record, 8) as usize <= k + 5,
-                "a call that combined costs at most k + 5",
-            )?;
-        } else if returned(record) {
-            claim(
-                number(record, 8) <= 6,
-                "a call served by another thread costs at most 6",
-            )?;
+        if returned(record) {
+            match file.method {
+                DSM_SYNCH => check_dsm_cost(records, i)?,
+                _ => check_cc_cost(records, i)?,
+            }
         }
     }
-    // Before its Swap a call accesses its thread's own node alone, which no other thread writes then.
-    // A thread's first call fetches it at line 2; a later call finds the copy with which the last one returned.
+    let sum: u64 = records.iter().map(cost).sum();
+    claim(
+        u64::from(counts.remote) == sum + before_swap(file, schedule, records),
+        "the total is the records' costs and those of calls before their Swap",
+    )
+}
+
+/// CC-Synch: at most k + 5 for a call that combined and served k, at most 6 for one that another thread served.
+fn check_cc_cost(records: &[RecordBytes], i: usize) -> Result<(), String> {
+    let record = &records[i];
+    if record[3] != record[0] {
+        return claim(
+            cost(record) <= 6,
+            "a call served by another thread costs at most 6",
+        );
+    }
+    let k = records[i..]
+        .iter()
+        .take_while(|other| turn(other) == turn(record))
+        .count();
+    claim(
+        cost(record) <= k as u64 + 5,
+        "a call that combined costs at most k + 5",
+    )
+}
+
+/// DSM-Synch: exactly 2 for a call that another thread served, or 1 if its Swap gave its own thread's other node, so that its thread swapped
+/// last before it; nothing for one that combined.
+fn check_dsm_cost(records: &[RecordBytes], i: usize) -> Result<(), String> {
+    let record = &records[i];
+    let again = i > 0 && records[i - 1][0] == record[0];
+    claim(
+        record[3] == record[0] || cost(record) == 2 || again && cost(record) == 1,
+        "a call served by another thread costs exactly 2, or 1",
+    )
+}
+
+/// The cost of the calls before their Swap. Such a call accesses its thread's own node alone. In DSM-Synch that is never remote. In CC-Synch no
+/// other thread writes the node then: a thread's first call fetches it at line 2, and a later call finds the copy with which the last one returned.
+fn before_swap(file: &Fields, schedule: &[u8], records: &[RecordBytes]) -> u64 {
+    if file.method == DSM_SYNCH {
+        return 0;
+    }
     let fetched = |&thread: &u8| {
         let mut entries = schedule.iter().filter(|&&entry| entry == thread);
         file.counts[usize::from(thread)] > 0
             && entries.nth(1).is_some()
             && records.iter().all(|record| record[0] != thread)
     };
-    let before_swap = (0..file.n).filter(fetched).count();
-    claim(
-        u64::from(counts.remote) == sum + before_swap as u64,
-        "the total is the records' costs, and 1 for each first call between line 2 and Swap",
-    )
+    (0..file.n).filter(fetched).count() as u64
 }
 
-/// How far one entry takes the counts.
-fn check_counts(before: &After, after: &After) -> Result<(), String> {
+/// How far one entry takes the counts. Line 19 of DSM-Synch may have three accesses.
+fn check_counts(file: &Fields, before: &After, after: &After) -> Result<(), String> {
     let (old, new) = (before.counts, after.counts);
     claim(
         grows(old.records, new.records, 1),
@@ -285,9 +314,10 @@ fn check_counts(before: &After, after: &After) -> Result<(), String> {
         grows(old.spins, new.spins, 1),
         "an entry adds 0 or 1 to the spins",
     )?;
+    let most = if file.method == DSM_SYNCH { 3 } else { 1 };
     claim(
-        grows(old.remote, new.remote, 1),
-        "an entry adds 0 or 1 to the remote references",
+        grows(old.remote, new.remote, most),
+        "an entry adds 0 or 1 to the remote references, in DSM-Synch up to 3",
     )
 }
 
@@ -348,12 +378,8 @@ fn check_entry(file: &Fields, before: &After, entry: u8, after: &After) -> Resul
         "an entry is one line",
     )?;
     claim(
-        remote == 0 || !(begins || blank),
-        "line 12 and a blank have no access",
-    )?;
-    claim(
-        remote == 0 || !(applies || returns),
-        "at lines 11, 16 and 21 the thread has a copy of the node",
+        remote == 0 || !(begins || blank || returns),
+        "the begin of a turn and a blank have no access, and a return reads a node that is local",
     )?;
     claim(
         blank == exhausted(file, before.records, entry),
@@ -364,8 +390,11 @@ fn check_entry(file: &Fields, before: &After, entry: u8, after: &After) -> Resul
         "a call begins no turn, spins or serves before Swap",
     )?;
     if swaps {
-        claim(own.is_none(), "a Swap is one of a thread without an open record")?;
-        check_swap(before, entry, after)?;
+        claim(
+            own.is_none(),
+            "a Swap is one of a thread without an open record",
+        )?;
+        check_swap(file, before, entry, after)?;
     }
     if begins {
         claim(
@@ -376,22 +405,37 @@ fn check_entry(file: &Fields, before: &After, entry: u8, after: &After) -> Resul
         claim(ended, "no turn begins before the last one has served")?;
     }
     if spins {
-        let serves_itself = own.is_some_and(|i| before.records[i][3] == entry);
-        claim(!serves_itself, "a call that combined spins no more")?;
-        let served = own.is_some_and(|i| i < a);
-        claim(
-            remote == 0 || served,
-            "before it is served a call spins on a valid copy",
-        )?;
+        check_spin(file, before, entry, remote)?;
     }
     if applies {
-        check_serving(before, entry, after)?;
+        check_serving(file, before, entry, after)?;
     }
     Ok(())
 }
 
-/// A Swap's record is of the entry's thread, unserved and open, with what its lines 2 to 5 fetched.
-fn check_swap(before: &After, entry: u8, after: &After) -> Result<(), String> {
+/// When a spin is remote. CC-Synch: a call that combined spins no more, and one not yet served spins on a valid copy. DSM-Synch: just at line 25 on
+/// another's node, which the turn served last; at line 10 the node is the thread's own.
+fn check_spin(file: &Fields, before: &After, entry: u8, remote: u32) -> Result<(), String> {
+    let a = applied(before.records);
+    let own = open_call(before.records, entry);
+    let combined = own.is_some_and(|i| before.records[i][3] == entry);
+    if file.method == DSM_SYNCH {
+        let others = combined && before.records[a - 1][0] != entry;
+        return claim(
+            remote == u32::from(others),
+            "a spin is remote just on another's node",
+        );
+    }
+    claim(!combined, "a call that combined spins no more")?;
+    let served = own.is_some_and(|i| i < a);
+    claim(
+        remote == 0 || served,
+        "before it is served a call spins on a valid copy",
+    )
+}
+
+/// A Swap's record is of the entry's thread, unserved and open, with the cost of the lines up to the Swap.
+fn check_swap(file: &Fields, before: &After, entry: u8, after: &After) -> Result<(), String> {
     let record = &after.records[after.records.len() - 1];
     claim(record[0] == entry, "a Swap is one of the entry's thread")?;
     claim(record[2] == 255, "a record begins unserved")?;
@@ -399,20 +443,25 @@ fn check_swap(before: &After, entry: u8, after: &After) -> Result<(), String> {
     let own_entries = after.schedule[began(record)..]
         .iter()
         .filter(|&&other| other == entry);
-    claim(
-        own_entries.count() == 5,
-        "a call's Swap is its fifth entry, and its line 1 the first",
-    )?;
     let first = record[1] == 0;
     let again = before.records.last().is_some_and(|last| last[0] == entry);
+    let (swap_line, expected) = match file.method {
+        DSM_SYNCH => (7, 1),
+        _ => (5, u64::from(first) + u64::from(!again)),
+    };
     claim(
-        number(record, 8) == u32::from(first) + u32::from(!again),
-        "a call fetches its node if it is its thread's first, and Tail unless its thread swapped last",
+        own_entries.count() == swap_line,
+        "a call's Swap is its fifth entry, in DSM-Synch its seventh, and its line 1 the first",
+    )?;
+    claim(
+        cost(record) == expected,
+        "a call fetches its node if it is its thread's first, and Tail unless its thread swapped last; in DSM-Synch Tail alone is remote",
     )
 }
 
-/// The first unserved call is served by the entry's thread, in the turn that its own call began.
-fn check_serving(before: &After, entry: u8, after: &After) -> Result<(), String> {
+/// The first unserved call is served by the entry's thread, in the turn that its own call began. In CC-Synch the thread has a copy of the node; in
+/// DSM-Synch both accesses go by the node's owner.
+fn check_serving(file: &Fields, before: &After, entry: u8, after: &After) -> Result<(), String> {
     let record = &after.records[applied(before.records)];
     claim(record[3] == entry, "the server is the entry's thread")?;
     claim(
@@ -426,6 +475,11 @@ fn check_serving(before: &After, entry: u8, after: &After) -> Result<(), String>
     claim(
         open_call(before.records, entry) == first,
         "the server's own call, still open, is the first of its turn",
+    )?;
+    let others = file.method == DSM_SYNCH && record[0] != entry;
+    claim(
+        after.counts.remote - before.counts.remote == 2 * u32::from(others),
+        "line 16 is remote just in DSM-Synch on another's node, and twice",
     )
 }
 
@@ -483,6 +537,11 @@ fn began(record: &RecordBytes) -> usize {
 /// The number of the entry with which the call returned, `OPEN` while it has not.
 fn returned_at(record: &RecordBytes) -> usize {
     number(record, 20) as usize
+}
+
+/// The call's remote references so far.
+fn cost(record: &RecordBytes) -> u64 {
+    number(record, 8).into()
 }
 
 fn turn(record: &RecordBytes) -> u32 {

@@ -51,18 +51,35 @@ impl Random {
 /// The fields of a file, as the writer is given them.
 #[derive(Clone, Debug)]
 pub struct Given {
+    pub version: u16,
     pub object: u8,
     pub n: u8,
     pub h: u8,
     pub capacity: u8,
+    pub method: u8,
     pub counts: Vec<u8>,
     pub requests: Vec<u8>,
     pub schedule: Vec<u8>,
 }
 
+/// The methods' numbers.
+pub const CC_SYNCH: u8 = 0;
+pub const DSM_SYNCH: u8 = 1;
+
+/// Version and method of a random file: half of them of DSM-Synch, a third of version 1.
+const KINDS: [(u16, u8); 6] = [
+    (1, CC_SYNCH),
+    (1, CC_SYNCH),
+    (2, CC_SYNCH),
+    (2, DSM_SYNCH),
+    (2, DSM_SYNCH),
+    (2, DSM_SYNCH),
+];
+
 impl Given {
     /// Fields in range: few or many threads, few requests mostly, and at most so many entries.
     pub fn random(random: &mut Random, most_entries: usize) -> Given {
+        let (version, method) = KINDS[random.below(KINDS.len())];
         let object = random.below(3) as u8;
         let n = 1 + random.mostly(4, 16) as u8;
         let h = 1 + random.mostly(4, 255) as u8;
@@ -80,20 +97,26 @@ impl Given {
         let length = random.below(most_entries + 1);
         let schedule = schedule(random, n, length);
         Given {
+            version,
             object,
             n,
             h,
             capacity,
+            method,
             counts,
             requests,
             schedule,
         }
     }
 
-    /// The fields of an accepted file, taken out of it by document 01's layout.
+    /// The fields of an accepted file, taken out of it by its layout.
     pub fn of(file: &[u8]) -> Given {
+        let version = u16::from_le_bytes([file[3], file[4]]);
         let [object, n, h, capacity] = file[5..9].try_into().expect("four bytes");
-        let mut rest = &file[9..];
+        let (method, mut rest) = match version {
+            1 => (CC_SYNCH, &file[9..]),
+            _ => (file[9], &file[10..]),
+        };
         let mut counts = Vec::new();
         let mut requests = Vec::new();
         for _ in 0..n {
@@ -104,10 +127,12 @@ impl Given {
             rest = behind;
         }
         Given {
+            version,
             object,
             n,
             h,
             capacity,
+            method,
             counts,
             requests,
             schedule: rest[2..].to_vec(),
@@ -116,10 +141,12 @@ impl Given {
 
     pub fn fields(&self) -> ccs::Fields<'_> {
         ccs::Fields {
+            version: self.version,
             object: self.object,
             n: self.n,
             h: self.h,
             capacity: self.capacity,
+            method: self.method,
             counts: &self.counts,
             requests: &self.requests,
             schedule: &self.schedule,
@@ -128,10 +155,12 @@ impl Given {
 
     pub fn plain_fields(&self) -> plain::Fields<'_> {
         plain::Fields {
+            version: self.version,
             object: self.object,
             n: self.n,
             h: self.h,
             capacity: self.capacity,
+            method: self.method,
             counts: &self.counts,
             requests: &self.requests,
             schedule: &self.schedule,
@@ -143,10 +172,23 @@ impl Given {
         self.requests.len() / 5
     }
 
-    /// The file of these fields, by document 01's layout.
+    /// The method's byte, which version 1 does not have.
+    fn method_byte(&self) -> Option<u8> {
+        (self.version != 1).then_some(self.method)
+    }
+
+    /// The length of the file of these fields.
+    pub fn length(&self) -> usize {
+        let head = 9 + self.method_byte().into_iter().count();
+        head + self.counts.len() + self.requests.len() + 2 + self.schedule.len()
+    }
+
+    /// The file of these fields, by its version's layout.
     pub fn bytes(&self) -> Vec<u8> {
-        let mut bytes = b"CCS\x01\x00".to_vec();
+        let mut bytes = b"CCS".to_vec();
+        bytes.extend(self.version.to_le_bytes());
         bytes.extend([self.object, self.n, self.h, self.capacity]);
+        bytes.extend(self.method_byte());
         let mut requests = self.requests.chunks(5);
         for &count in &self.counts {
             bytes.push(count);
@@ -156,6 +198,81 @@ impl Given {
         bytes.extend(&self.schedule);
         bytes
     }
+}
+
+/// A stretch of a schedule: a thread, and how many entries name it.
+pub type Stretch = (u8, usize);
+
+/// The schedule of stretches.
+pub fn stretched(stretches: &[Stretch]) -> Vec<u8> {
+    let stretch = |&(thread, entries): &Stretch| vec![thread; entries];
+    stretches.iter().flat_map(stretch).collect()
+}
+
+/// The first entries of the runs that meet null (`docs/DSM-SYNCH.md`): thread 0 has lines 27 and 28 left, and tmpNode is thread 1's node.
+const BEFORE_LINE_27: [Stretch; 6] = [(0, 8), (1, 9), (2, 9), (0, 17), (1, 3), (2, 13)];
+
+/// Runs of DSM-Synch that meet null with their last entry, h = 2: the threads' counts and what follows the first entries. Line 26 of three threads
+/// and of four, and line 21.
+const MEET_NULL: [(&[u8], &[Stretch]); 3] = [
+    (&[1, 3, 2], &[(1, 27), (2, 9), (1, 9), (0, 1), (1, 1)]),
+    (&[1, 3, 1, 1], &[(1, 27), (3, 9), (1, 9), (0, 1), (1, 1)]),
+    (
+        &[1, 3, 2, 1],
+        &[(1, 27), (2, 9), (3, 9), (1, 7), (0, 1), (1, 1)],
+    ),
+];
+
+impl Given {
+    /// Fields whose run meets null with its last entry: one of the runs above with any object, its threads renamed, others beside them, and
+    /// blanks in between.
+    pub fn that_meets_null(random: &mut Random) -> Given {
+        let (counts, stretches) = MEET_NULL[random.below(MEET_NULL.len())];
+        let n = counts.len() + 1 + random.mostly(3, 16 - counts.len());
+        // the thread that each thread of the run is, and one without requests
+        let names = some_of(random, n, counts.len() + 1);
+        let idle = names[counts.len()] as u8;
+        let object = random.below(3) as u8;
+        let mut given = Given {
+            version: 2,
+            object,
+            n: n as u8,
+            h: 2,
+            capacity: if object == 2 {
+                0
+            } else {
+                1 + random.below(3) as u8
+            },
+            method: DSM_SYNCH,
+            counts: vec![0; n],
+            requests: Vec::new(),
+            schedule: Vec::new(),
+        };
+        for (&count, &name) in counts.iter().zip(&names) {
+            given.counts[name] = count;
+        }
+        let calls = counts.iter().map(|&count| usize::from(count)).sum();
+        let request = |_| request(random, object, 1);
+        given.requests = (0..calls).flat_map(request).collect();
+        let blanks = random.below(3);
+        for entry in stretched(&[&BEFORE_LINE_27, stretches].concat()) {
+            if blanks > 0 && random.one_in(20) {
+                given.schedule.extend(vec![idle; blanks]);
+            }
+            given.schedule.push(names[usize::from(entry)] as u8);
+        }
+        given
+    }
+}
+
+/// So many different numbers below a limit, in any order.
+fn some_of(random: &mut Random, limit: usize, many: usize) -> Vec<usize> {
+    let mut numbers: Vec<usize> = (0..limit).collect();
+    for i in 0..many {
+        numbers.swap(i, i + random.below(limit - i));
+    }
+    numbers.truncate(many);
+    numbers
 }
 
 /// A request that the object knows, so many puts for a take: its code, and a value that may be small or large.
