@@ -9,6 +9,7 @@ use Rattle.machine.specs.declared.Node.{Node}
 use Rattle.machine.specs.declared.Thread.{Thread}
 use Rattle.machine.specs.declared.Row.{Row}
 use Rattle.machine.specs.declared.Effect.{Effect}
+use Rattle.machine.specs.Fields.{null}
 use Rattle.cc_lines.specs.Lines as cc
 use Rattle.cc_synch.specs.Effect as ccEffect
 use Rattle.dsm_lines.specs.Lines as dsm
@@ -19,6 +20,11 @@ use Rattle.dsm_synch.specs.Effect as dsmEffect
 abbrev pub rowBy : Method → ℕ → Row
 rowBy CcSynch k = cc.rowOf (cc.lineOf k)
 rowBy DsmSynch k = dsmRows.rowOf (dsm.lineOf k)
+
+-- the node behind that a line may look at, from the next of the one that it points to: CC-Synch looks at none, null
+abbrev pub behindBy : Method → NodeId → NodeId
+behindBy CcSynch next = null
+behindBy DsmSynch next = next
 
 -- what the next line of thread t, th, does; x is the node that it points to, y the one behind it, which CC-Synch does not look at
 abbrev pub effectBy : Method → ℕ → Thread → Node → Node → NodeId → ℕ → Request → Answer → Effect

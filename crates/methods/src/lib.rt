@@ -2,7 +2,7 @@
 ghost use mathlib.Core.Path.{_≡_};
 ghost use mathlib.Core.List.{map};
 ghost use Rattle.machine.specs.Lines.{upFrom};
-ghost use Rattle.methods.specs.Methods.{rowBy, effectBy, assignedBy, spinLine, spinNode};
+ghost use Rattle.methods.specs.Methods.{rowBy, behindBy, effectBy, assignedBy, spinLine, spinNode};
 use machine::Effect;
 use machine::Method;
 use machine::Node;
@@ -36,8 +36,19 @@ pub fn all_rows(method: Method) -> [Row; 29]
     rows
 }
 
+// The node behind that a line may look at, from the next of the one that it points to: CC-Synch looks at none.
+pub fn node_behind(method: Method, next: NodeId) -> NodeId
+    ensures { λ r. ⌜ r ≡ behindBy method next ⌝ }
+{
+    let null = NodeId(machine::NULL);
+    match method {
+        Method::CcSynch => null,
+        Method::DsmSynch => next,
+    }
+}
+
 // What the next line of a thread, `named`, does to it, to the node that it writes and to Tail, or 14. The node is the one that the line points to, at which
-// CC-Synch stays, and `behind` the one behind it.
+// CC-Synch stays, and `behind` the one that `node_behind` gives.
 pub fn run_line(
     method: Method,
     thread: ThreadId,

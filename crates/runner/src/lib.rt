@@ -104,7 +104,8 @@ fn from_start(schedule: &[u8], start: State) -> Played
             answer = applied.answer;
             state.object = object_after;
         }
-        let b = next.0 as usize;
+        let looked = methods::node_behind(method, next);
+        let b = looked.0 as usize;
         let mut behind = step::zero_node();
         if b < machine::NODES {
             behind = state.nodes[b];

@@ -10,12 +10,15 @@ use lib.ListN.{getD, set}
 use lib.Dec.{eqb}
 use borrow.Author.Tests.{le-leb, lt-leb}
 use Rattle.object.specs.declared.Object.{Object}
+use Rattle.object.specs.declared.Request.{Request}
+use Rattle.object.specs.declared.Answer.{Answer}
 use Rattle.object.specs.declared.Applied.{Applied}
 use Rattle.machine.specs.declared.Method.{Method}
 use Rattle.machine.specs.declared.Method.the-variants.{CcSynch, DsmSynch}
 use Rattle.machine.specs.declared.ThreadId.{ThreadId}
 use Rattle.machine.specs.declared.NodeId.{NodeId}
 use Rattle.machine.specs.declared.Node.{Node}
+use Rattle.machine.specs.declared.Thread.{Thread}
 use Rattle.machine.specs.declared.Event.{Event}
 use Rattle.machine.specs.declared.Row.{Row}
 use Rattle.machine.specs.declared.Effect.{Effect}
@@ -57,7 +60,7 @@ pub record Called (m : Method) (s : State) (t : ThreadId) (k : ℕ) (r : Row) (p
   pub row-of : r ≡ rowBy m k
   pub pointed-to : p ≡ pointed (r .node) (named s t)
   pub node-at : x ≡ getD (s .nodes) (p .0) zeroNode
-  pub behind-at : y ≡ getD (s .nodes) (x .next .0) zeroNode
+  pub behind-at : y ≡ getD (s .nodes) (methods.behindBy m (x .next) .0) zeroNode
   pub event-in : ev ≡ eventFound r x (eqb (s .tail .0) (named s t .tmp .0))
   pub place : c ≡ 16 * t .0 + (named s t .begun - 1)
   pub applied-at : ob ≡ appliedAt ev (s .kind) (s .capacity) (s .object) (x .req)
@@ -83,6 +86,13 @@ made s t nodes object e copies counts = record {
   object = object;
   counts = counts;
 }
+
+-- what a line does hangs on no other node behind than the one that it may look at
+looks-behind : (m : Method) (t : ℕ) (th : Thread) (x : Node) (nodes : List Node) (tail : NodeId) (h : ℕ) (request : Request) (answer : Answer)
+    → methods.effectBy m t th x (getD nodes (methods.behindBy m (x .next) .0) zeroNode) tail h request answer
+    ≡ methods.effectBy m t th x (getD nodes (x .next .0) zeroNode) tail h request answer
+looks-behind CcSynch t th x nodes tail h request answer = refl
+looks-behind DsmSynch t th x nodes tail h request answer = refl
 
 -- a thread of a state in range has its nodes
 has-nodes : (m : Method) (s : State) (t : ThreadId) → s .n ≤ 16 → t .0 < s .n → ThreadFits m (lastNode m (s .n)) (s .h) (named s t) (named s t .line)
@@ -116,9 +126,6 @@ module _ (m : Method) (s : State) (t : ThreadId) (shape : Shaped s) (fits : inRa
     pub is-node : x ≡ nodeBy m s t
     is-node = called .node-at ∙ ap (λ (q : NodeId). getD (s .nodes) (q .0) zeroNode) at-points
 
-    is-behind : y ≡ behindBy m s t
-    is-behind = called .behind-at ∙ ap (λ (z : Node). getD (s .nodes) (z .next .0) zeroNode) is-node
-
     pub is-event : ev ≡ eventBy m s t
     is-event = rw (is-row, is-node) at (called .event-in) ∙ row-event m (named s t) (nodeBy m s t) (s .tail) (line s t)
 
@@ -126,7 +133,9 @@ module _ (m : Method) (s : State) (t : ThreadId) (shape : Shaped s) (fits : inRa
     is-applied = rw (is-event, is-node) at (called .applied-at)
 
     is-answer : e ≡ answer
-    is-answer = rw (is-behind, is-node, called .place, is-applied) at (called .effect-of)
+    is-answer =
+        rw (called .behind-at, is-node, called .place, is-applied) at (called .effect-of)
+        ∙ looks-behind m (t .0) (named s t) (nodeBy m s t) (s .nodes) (s .tail) (s .h) (request s t) (appliedBy m s t .answer)
 
     accesses-are : accessesOf r p (x .next) ≡ accessesBy m s t
     accesses-are = rw (is-row, at-points, is-node) (row-accesses m (named s t) (nodeBy m s t) (line s t))

@@ -186,7 +186,7 @@ fn enter(state: State, thread: ThreadId) -> Stepped
     );
     let node = node_at(nodes, target);
     let next = node.next;
-    let behind = node_at(nodes, next);
+    let behind = node_at(nodes, methods::node_behind(method, next));
     let event = machine::event_in(row, node, tail.0 == named.tmp.0);
     let req = node.req;
     let place = call_place(thread, named.begun);

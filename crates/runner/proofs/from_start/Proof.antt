@@ -83,7 +83,7 @@ abbrev placed : tie.Joined5 Inv-loop μ-loop → tie.After-call-place Inv-loop �
 placed c = c .before .before .before
 
 abbrev applies-of : tie.Joined6 Inv-loop μ-loop → tie.Joined5 Inv-loop μ-loop
-applies-of c = c .before .before .before
+applies-of c = c .before .before .before .before
 
 abbrev ran : tie.After-more-of Inv-loop μ-loop → tie.After-run-line Inv-loop μ-loop
 ran c = c .before .before .before .before .before .before
@@ -205,13 +205,18 @@ nodes-same : (c : tie.Joined5 Inv-loop μ-loop) → c .if5 .state .nodes ≡ sta
 nodes-same c = ap (λ (s : State). s .nodes) (serves c .state)
 
 behind-is : (c : tie.Joined6 Inv-loop μ-loop)
-    → let at = applies-of c in c .if6 .behind ≡ getD (state (entry (lined (pointed (placed at)))) .nodes) (node (told (eventful (placed at))) .next .0) zeroNode
+    → let at = applies-of c in
+    let of-entry = entry (lined (pointed (placed at))) in
+    c .if6 .behind ≡ getD (state of-entry .nodes) (methods.behindBy (method of-entry) (node (told (eventful (placed at))) .next) .0) zeroNode
 behind-is c =
     let at = applies-of c in
-    let same = nodes-same at in
-    ⊎-elim (λ w. w .2 ∙ ap (λ (l : List Node). getD l (node (told (eventful (placed at))) .next .0) zeroNode) same)
-    (λ w. read-there (state (entry (lined (pointed (placed at)))) .nodes) (w .1 ∙ c .before .zero-node2 .ensures) (omega (arith, long (entry (lined (pointed (placed at)))), w .0 .left)))
-    (c .if6 .came)
+    let of-entry = entry (lined (pointed (placed at))) in
+    let looked = c .before .before .before .node-behind in
+    let read : c .if6 .behind ≡ getD (state of-entry .nodes) (looked .result .0) zeroNode =
+    ⊎-elim (λ w. w .2 ∙ ap (λ (l : List Node). getD l (looked .result .0) zeroNode) (nodes-same at))
+    (λ w. read-there (state of-entry .nodes) (w .1 ∙ c .before .zero-node2 .ensures) (omega (arith, long of-entry, w .0 .left)))
+    (c .if6 .came) in
+    read ∙ ap (λ (m : NodeId). getD (state of-entry .nodes) (m .0) zeroNode) (looked .ensures)
 
 -- what the calls up to the line answered, with its remote references, the node that it writes and what it adds to the counts
 called-by : (c : tie.After-run-line Inv-loop μ-loop) {remote : ℕ} {copies : List ℕ} {w : NodeId} {more : Counts}
@@ -343,8 +348,8 @@ unkept-requires c κs = search needs
 loop-holds : tie.Need-loop-holds Inv-loop μ-loop
 loop-holds c = looping-start (c .before .before .all-rows .ensures) (c .before .spin-line .ensures) (ap (replicate mostCalls) (c .unkept .ensures)) (c .before .before .before .before .pre)
 
-shared-slice-read-t69 : tie.Need-shared-slice-read-t69 Inv-loop μ-loop
-shared-slice-read-t69 c = c .before .loop-test .taken
+shared-slice-read-t70 : tie.Need-shared-slice-read-t70 Inv-loop μ-loop
+shared-slice-read-t70 c = c .before .loop-test .taken
 
 cast-t : tie.Need-cast-t Inv-loop μ-loop
 cast-t c = omega (arith, thread-below (c .before .before))
@@ -456,6 +461,9 @@ element-copy-out-slot c = place-below c
 
 served-by-requires : tie.Need-served-by-requires Inv-loop μ-loop
 served-by-requires c κs = search needs
+
+node-behind-requires : tie.Need-node-behind-requires Inv-loop μ-loop
+node-behind-requires c κs = search needs
 
 cast-b : tie.Need-cast-b Inv-loop μ-loop
 cast-b c = search needs
@@ -619,7 +627,7 @@ from-start-spec =
     spin-line-requires
     unkept-requires
     loop-holds
-    shared-slice-read-t69
+    shared-slice-read-t70
     cast-t
     mul-seen
     element-copy-out-seen
@@ -657,6 +665,7 @@ from-start-spec =
     mul-slot
     element-copy-out-slot
     served-by-requires
+    node-behind-requires
     cast-b
     zero-node-requires-2
     mul-behind

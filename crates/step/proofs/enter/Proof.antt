@@ -1,13 +1,15 @@
 -- `step::enter` meets its contract: what its calls answer makes the outcome. Assumes nothing.
 use Prim.Native.Nat.{_<_}
 use native.Mathlib.Omega.{arith}
-use mathlib.Core.Path.{sym, _∙_}
-use lib.ListN.{length-map}
+use mathlib.Core.Path.{sym, ap, _∙_}
+use lib.ListN.{getD, length-map}
 use borrow.Author.Needs.{needs}
 use borrow.Author.Tests.{not-true, not-false}
+use Rattle.machine.specs.declared.NodeId.{NodeId}
 use Rattle.machine.specs.Sizes.{mostCalls}
 use Rattle.state.specs.Shape.{Shaped}
 use Rattle.state.proofs.RangeFacts.{state-fits}
+use Rattle.step.specs.Entry.{zeroNode}
 use Rattle.step.proofs.Entering.{place-few, Called, line-refused, counts-refused, accepted}
 use Rattle.step.proofs.enter.Statement.{statement}
 use Rattle.step.proofs.enter.Tie as tie
@@ -17,7 +19,7 @@ abbrev placed : (c : tie.After-more-of) → tie.After-call-place
 placed c = c .before .before .before .before .before .before .before
 
 abbrev run : (c : tie.After-call-place) → tie.After-line-run
-run c = c .before .before .before .before .before .before .before .before .before
+run c = c .before .before .before .before .before .before .before .before .before .before
 
 abbrev began : (c : tie.After-line-run) → tie.Start
 began c = c .before .before .before .before .before .before .before
@@ -63,6 +65,9 @@ pointed-requires c κs = search needs
 node-at-requires : tie.Need-node-at-requires
 node-at-requires c κs = search needs
 
+node-behind-requires : tie.Need-node-behind-requires
+node-behind-requires c κs = search needs
+
 node-at-requires-2 : tie.Need-node-at-requires-2
 node-at-requires-2 c κs = search needs
 
@@ -96,8 +101,8 @@ more-of-requires c κs = search needs
 -- what the calls answered
 called : (c : tie.After-more-of)
     → let p = placed c in let l = run p in let at = began l in let found = p .before .before .before .before in
-    Called (at .args .t1 .method) (at .args .t1) (at .args .thread) (l .line-run .result) (found .before .before .before .before .row-of .result)
-    (found .before .before .before .pointed .result) (found .before .before .node-at .result) (found .node-at2 .result) (p .before .event-in .result)
+    Called (at .args .t1 .method) (at .args .t1) (at .args .thread) (l .line-run .result) (found .before .before .before .before .before .row-of .result)
+    (found .before .before .before .before .pointed .result) (found .before .before .before .node-at .result) (found .node-at2 .result) (p .before .event-in .result)
     (p .call-place .result) (c .before .before .before .before .before .applied-at .result) (c .before .before .before .before .run-line .result)
     (c .before .before .refer-all .result) (c .before .before .refer-all .last .1 .0) (c .before .written .result) (c .more-of .result)
 called c =
@@ -106,10 +111,10 @@ called c =
     let found = p .before .before .before .before in
     record {
       line-run = l .line-run .ensures;
-      row-of = found .before .before .before .before .row-of .ensures;
-      pointed-to = found .before .before .before .pointed .ensures;
-      node-at = found .before .before .node-at .ensures;
-      behind-at = found .node-at2 .ensures;
+      row-of = found .before .before .before .before .before .row-of .ensures;
+      pointed-to = found .before .before .before .before .pointed .ensures;
+      node-at = found .before .before .before .node-at .ensures;
+      behind-at = found .node-at2 .ensures ∙ ap (λ (m : NodeId). getD (began l .args .t1 .nodes) (m .0) zeroNode) (found .before .node-behind .ensures);
       event-in = p .before .event-in .ensures;
       place = p .call-place .ensures;
       applied-at = c .before .before .before .before .before .applied-at .ensures;
@@ -175,6 +180,7 @@ enter-spec =
     row-of-requires
     pointed-requires
     node-at-requires
+    node-behind-requires
     node-at-requires-2
     event-in-requires
     call-place-requires
