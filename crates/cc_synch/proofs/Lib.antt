@@ -1,4 +1,3 @@
 pub mod NextLine
-pub mod Others
 pub mod Refusal
 pub mod Written

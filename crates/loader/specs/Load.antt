@@ -7,17 +7,18 @@ use Rattle.object.specs.declared.Request.{Request}
 use Rattle.object.specs.Paper.{requestOf}
 use Rattle.bench_file.specs.Reading.{littleEndian}
 use Rattle.bench_file.specs.Layout.{requestsOf, Judgement, accepted, refusedBy}
+use Rattle.machine.specs.declared.Method.the-variants.{CcSynch}
 use Rattle.machine.specs.Sizes.{mostCalls}
 use Rattle.state.specs.declared.Slot.{Slot}
 use Rattle.state.specs.declared.State.{State}
-use Rattle.state.specs.Fresh.{freshState}
+use Rattle.state.specs.Fresh.{freshStateBy}
 use Rattle.step.specs.Entry.{zeroSlot}
 use Rattle.claims.specs.Entries.{startBy}
 use Rattle.loader.specs.declared.Loaded.{Loaded}
 
 -- a machine of no thread and no request: what stands for the machine of a refused file
 abbrev pub noMachine : State
-noMachine = freshState Queue 0 0 0 (replicate 16 0) (replicate mostCalls zeroSlot)
+noMachine = freshStateBy CcSynch Queue 0 0 0 (replicate 16 0) (replicate mostCalls zeroSlot)
 
 -- how many requests and entries an accepted file has, and its fresh machine; a refusal has its number, and all counts 0
 abbrev pub loadedAs : Judgement → Loaded

@@ -63,7 +63,3 @@ freshStateBy m kind n h capacity counts requests = record {
   object = freshObject;
   counts = record { records = 0; turns = 0; blanks = 0; spins = 0; remote = 0 };
 }
-
--- the same of CC-Synch
-abbrev pub freshState : Kind → ℕ → ℕ → ℕ → List ℕ → List Slot → State
-freshState = freshStateBy CcSynch
