@@ -5,7 +5,7 @@ ghost use mathlib.Core.Bool.{true};
 ghost use lib.Dec.{ltb};
 ghost use lib.ListN.{getD, set};
 ghost use Rattle.state.specs.Range.{inRange, countsInRange};
-ghost use Rattle.step.specs.Entry.{zeroNode, servedBy, appliedAt, oneIf, moreOf, plus, wrapped};
+ghost use Rattle.step.specs.Entry.{zeroNode, servedBy, appliedAt, moreOf, plus, wrapped};
 ghost use Rattle.step.specs.Step.{refused, outcomeBy, stepOf};
 use machine::Announced;
 use machine::Event;
@@ -74,23 +74,29 @@ pub fn call_place(thread: ThreadId, begun: u8) -> usize
     first + ((begun - 1) as usize)
 }
 
-fn one_if(test: bool) -> u32
-    ensures { λ r. ⌜ r ≡ oneIf test ⌝ }
-{
-    if test { 1 } else { 0 }
-}
-
 // What an entry adds to the counts.
 pub fn more_of(event: Event, remote: u8) -> Counts
     ensures { λ r. ⌜ r ≡ moreOf event remote ⌝ }
 {
-    Counts {
-        records: one_if(machine::same_event(event, Event::Swaps)),
-        turns: one_if(machine::same_event(event, Event::TurnBegins)),
-        blanks: one_if(machine::same_event(event, Event::Blank)),
-        spins: one_if(machine::same_event(event, Event::Spins)),
+    let mut more = Counts {
+        records: 0,
+        turns: 0,
+        blanks: 0,
+        spins: 0,
         remote: remote as u32,
+    };
+    match event {
+        Event::Blank => more.blanks = 1,
+        Event::CallBegins => {}
+        Event::Swaps => more.records = 1,
+        Event::TurnBegins => more.turns = 1,
+        Event::Applies => {}
+        Event::TurnEnds => {}
+        Event::Returns => {}
+        Event::Spins => more.spins = 1,
+        Event::Other => {}
     }
+    more
 }
 
 fn fits(count: u32, more: u32) -> bool
