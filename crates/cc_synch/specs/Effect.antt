@@ -1,5 +1,5 @@
 -- What a printed line does to its thread, to the node that it points to and to Tail: Algorithm 1 of source 004, line by line.
-use Prim.Native.Nat.{ℕ, _+_}
+use Prim.Native.Nat.{ℕ, _+_, _%_}
 use mathlib.Core.Bool.{Bool, true, false, cond, _&&_, _||_}
 use lib.Dec.{leb, ltb, eqb}
 use Rattle.object.specs.declared.Request.{Request}
@@ -42,6 +42,27 @@ takesOut th x h line =
     || eqb line 14 && leb h (th .served)
     || eqb line 19 && isNull (th .tmpnext)
     || usesEmpty x line
+
+-- what a line does, in numbers of 8 bits: requests begun and served counter modulo 256
+abbrev pub wrapped : Effect → Effect
+wrapped e = record {
+  refusal = e .refusal;
+  thread = record {
+    count = e .thread .count;
+    begun = e .thread .begun % 256;
+    line = e .thread .line;
+    own = e .thread .own;
+    cur = e .thread .cur;
+    tmp = e .thread .tmp;
+    tmpnext = e .thread .tmpnext;
+    served = e .thread .served % 256;
+    toggle = e .thread .toggle;
+    my = e .thread .my;
+    pred = e .thread .pred;
+  };
+  node = e .node;
+  tail = e .tail;
+}
 
 -- the thread, the node that it points to, and Tail
 module _ (th : Thread) (x : Node) (tail : NodeId) where

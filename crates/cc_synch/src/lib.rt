@@ -1,9 +1,7 @@
 // What one printed line of CC-Synch does to its thread, to the node that it points to and to Tail: Algorithm 1 of source 004.
-ghost use Prim.Native.Nat.{_<_};
 ghost use mathlib.Core.Path.{_≡_};
-ghost use mathlib.Core.Bool.{false};
 ghost use Rattle.cc_lines.specs.Lines.{lineOf};
-ghost use Rattle.cc_synch.specs.Effect.{usesEmpty, takesOut, lineDoes, executed, effectOf};
+ghost use Rattle.cc_synch.specs.Effect.{usesEmpty, takesOut, wrapped, lineDoes, executed, effectOf};
 use machine::Effect;
 use machine::Node;
 use machine::NodeId;
@@ -22,8 +20,7 @@ fn line_does(
     request: Request,
     answer: Answer,
 ) -> Effect
-    requires { ⌜ (line ≡ 1 → thread .begun < 255) × (line ≡ 14 → thread .served < 255) ⌝ }
-    ensures { λ r. ⌜ r ≡ lineDoes thread node tail request answer on (lineOf line) ⌝ }
+    ensures { λ r. ⌜ r ≡ wrapped (lineDoes thread node tail request answer on (lineOf line)) ⌝ }
 {
     let null = NodeId(machine::NULL);
     let own = thread.own;
@@ -37,7 +34,7 @@ fn line_does(
     match line {
         0 => th.line = thread.line, // a blank
         1 => {
-            th.begun = thread.begun + 1;
+            th.begun = std::num::wrapping_add_u8(thread.begun, 1);
             th.cur = null;
             th.tmp = null;
             th.tmpnext = null;
@@ -58,7 +55,7 @@ fn line_does(
         11 => {} // returns ret
         12 => th.tmp = cur,
         13 => {} // tests next and the counter
-        14 => th.served = thread.served + 1,
+        14 => th.served = std::num::wrapping_add_u8(thread.served, 1),
         15 => th.tmpnext = next,
         16 => x = machine::with_ret(node, answer),
         17 => x.completed = true,
@@ -76,8 +73,8 @@ fn line_does(
     }
 }
 
-// What a printed line does, its thread going on to the line that follows.
-fn executed(
+// What a printed line does, its thread going on to the line that follows. A number past 8 bits wraps: `run_line` refuses such a line before, and no run meets one.
+pub fn executed(
     line: u8,
     thread: Thread,
     node: Node,
@@ -86,8 +83,7 @@ fn executed(
     request: Request,
     answer: Answer,
 ) -> Effect
-    requires { ⌜ takesOut thread node h line ≡ false ⌝ }
-    ensures { λ r. ⌜ r ≡ executed thread node tail h request answer (lineOf line) ⌝ }
+    ensures { λ r. ⌜ r ≡ wrapped (executed thread node tail h request answer (lineOf line)) ⌝ }
 {
     let on = cc_lines::following(line, node, thread.served, h);
     line_does(line, on, thread, node, tail, request, answer)
