@@ -1,7 +1,7 @@
 // What a run keeps of each call while it goes, and what it notes: turns, the call that a node is given to, Swap order.
 ghost use Prim.Native.Nat.{_%_};
 ghost use mathlib.Core.Path.{_≡_};
-ghost use mathlib.Core.Bool.{cond};
+ghost use mathlib.Core.Bool.{true, cond};
 ghost use lib.ListN.{getD, set};
 ghost use Rattle.machine.specs.Events.{sameEvent};
 ghost use Rattle.kept.specs.Kept.{unkept, afterEntry, afterServing};
@@ -72,22 +72,19 @@ pub fn after_entry(kept: Kept, event: Event, remote: u8, number: u32) -> Kept
     after
 }
 
-// The call that the entry serves, if it does: its answer, by which thread and in which turn.
-pub fn after_serving(kept: Kept, serves: bool, answer: Answer, server: ThreadId, turn: u16) -> Kept
-    ensures { λ r. ⌜ r ≡ afterServing kept serves answer server turn ⌝ }
+// The call that the entry serves: its answer, by which thread and in which turn.
+pub fn after_serving(kept: Kept, answer: Answer, server: ThreadId, turn: u16) -> Kept
+    ensures { λ r. ⌜ r ≡ afterServing kept true answer server turn ⌝ }
 {
-    if serves {
-        return Kept {
-            mark: object::answer_mark(answer),
-            server: server.0,
-            value: object::answer_value(answer),
-            remote: kept.remote,
-            turn,
-            began: kept.began,
-            returned: kept.returned,
-        };
+    Kept {
+        mark: object::answer_mark(answer),
+        server: server.0,
+        value: object::answer_value(answer),
+        remote: kept.remote,
+        turn,
+        began: kept.began,
+        returned: kept.returned,
     }
-    kept
 }
 
 // The place of the call that a node is given to; past the nodes, where no node is given, 0.
@@ -99,16 +96,6 @@ pub fn given_at(given: &[u16], node: NodeId) -> u16
         return given[m];
     }
     0
-}
-
-// The place of the call that the entry serves, the one that the node was given to last; where it serves none that of its own call, which stays.
-pub fn served_place(serves: bool, given: u16, place: usize) -> usize
-    ensures { λ r. ⌜ r ≡ cond serves given place ⌝ }
-{
-    if serves {
-        return given as usize;
-    }
-    place
 }
 
 // Notes a number at a place, or not; past the end nothing is noted, as `set` has it.

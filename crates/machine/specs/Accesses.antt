@@ -78,6 +78,19 @@ writesBehind Cas = false
 writesBehind (ReadBehind field) = false
 writesBehind (WriteBehind field) = true
 
+-- whether an access writes a node, and whether one of a row does
+abbrev pub writes : SharedAccess → Bool
+writes NoAccess = false
+writes (Read field) = false
+writes (Write field) = true
+writes Swap = false
+writes Cas = false
+writes (ReadBehind field) = false
+writes (WriteBehind field) = true
+
+abbrev pub writesAny : Row → Bool
+writesAny row = writes (row .first) || (writes (row .second) || writes (row .third))
+
 -- the node that a line points to, and the one behind it, which its next gives
 module _ (node behind : NodeId) where
   abbrev pub accessTo : SharedAccess → List Access

@@ -2,7 +2,7 @@
 ghost use mathlib.Core.Path.{_≡_};
 ghost use mathlib.Core.Bool.{cond};
 ghost use Rattle.machine.specs.Fields.{isNull, isEmptyReq, isEmptyRet};
-ghost use Rattle.machine.specs.Accesses.{pointedOf, rowFrom, isNone, writesBehind, writtenOf};
+ghost use Rattle.machine.specs.Accesses.{pointedOf, rowFrom, isNone, writesBehind, writes, writesAny, writtenOf};
 ghost use Rattle.machine.specs.Events.{eventNumber, sameEvent, stays, isCas, eventFound};
 ghost use Rattle.machine.specs.Lines.{lineRun};
 ghost use Rattle.machine.specs.Methods.{methodNumber, methodOf, lastLine};
@@ -314,6 +314,33 @@ fn writes_behind(access: SharedAccess) -> bool
         SharedAccess::ReadBehind(_) => false,
         SharedAccess::WriteBehind(_) => true,
     }
+}
+
+// Whether an access writes a node, and whether one of a row does.
+fn writes(access: SharedAccess) -> bool
+    ensures { λ r. ⌜ r ≡ writes access ⌝ }
+{
+    match access {
+        SharedAccess::NoAccess => false,
+        SharedAccess::Read(_) => false,
+        SharedAccess::Write(_) => true,
+        SharedAccess::Swap => false,
+        SharedAccess::Cas => false,
+        SharedAccess::ReadBehind(_) => false,
+        SharedAccess::WriteBehind(_) => true,
+    }
+}
+
+pub fn writes_any(row: Row) -> bool
+    ensures { λ r. ⌜ r ≡ writesAny row ⌝ }
+{
+    let first = row.first;
+    let second = row.second;
+    let third = row.third;
+    let by_first = writes(first);
+    let by_second = writes(second);
+    let by_third = writes(third);
+    by_first | (by_second | by_third)
 }
 
 // The node that a line writes, if it writes one: the one behind the pointed node where the row's second access says so.

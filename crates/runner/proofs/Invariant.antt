@@ -7,6 +7,7 @@ use mathlib.Core.Bool.{Bool, true, false}
 use mathlib.Core.List.{List, [], _∷_}
 use lib.ListN.{length}
 use lib.Dec.{eqb}
+use Rattle.object.specs.declared.Request.{Request}
 use Rattle.object.specs.declared.Answer.{Answer}
 use Rattle.object.specs.Each.{Each}
 use Rattle.bench_file.specs.Layout.{Fields}
@@ -23,6 +24,8 @@ use Rattle.machine.specs.Methods.{lastLine}
 use Rattle.machine.specs.Sizes.{mostCalls, mostNodes}
 use Rattle.cc_lines.specs.Lines as ccLines
 use Rattle.cc_lines.proofs.Numbers as ccNumbers
+use Rattle.cc_synch.specs.Effect as ccEffect
+use Rattle.cc_synch.proofs.Refusal as ccRefusal
 use Rattle.dsm_lines.specs.Lines as dsmLines
 use Rattle.dsm_lines.proofs.Numbers as dsmNumbers
 use Rattle.methods.specs.Methods.{spinLine, spinNode}
@@ -31,7 +34,7 @@ use Rattle.state.proofs.RangeFacts.{ThreadFits, state-fits, nodes-held}
 use Rattle.step.specs.Entry.{named, line}
 use Rattle.step.specs.Entry as cc
 use Rattle.step.specs.DsmEntry as dsm
-use Rattle.step.specs.ByMethod.{pointsToBy, eventBy, appliedBy, effectBy, accessesBy, referencesBy, enteredBy, outBy, nullMetBy}
+use Rattle.step.specs.ByMethod.{pointsToBy, nodeBy, eventBy, appliedBy, effectBy, accessesBy, referencesBy, enteredBy, outBy, nullMetBy}
 use Rattle.step.proofs.Outcome.{thread-fits, runs-line, target-in-range}
 use Rattle.step.proofs.Soundness.{Sound}
 use Rattle.invariant.specs.View.{viewOf}
@@ -153,6 +156,23 @@ module _ (f : Fields) (fits : InRange f) (s : State) (past : List Entry) (t : Th
   pub null-alone : (m : Method) → Standing m f s past → outBy m s t ≡ nullMetBy m s t
   null-alone CcSynch now = ccLayers.stays f fits s past t below (now .going) (now .layers)
   null-alone DsmSynch now = dsmLayers.null-alone f fits s past t below (now .going) (now .layers) .alone
+
+  -- what a line of CC-Synch does, in 8 bits, is what it does: none is refused, and no number wraps
+  abbrev pub Done : Method → Type 0
+  Done CcSynch = (request : Request) (answer : Answer)
+      → ccEffect.wrapped (ccEffect.executed (named s t) (nodeBy CcSynch s t) (s .tail) (s .h) request answer (ccLines.lineOf (line s t)))
+      ≡ ccEffect.effectOf (named s t) (nodeBy CcSynch s t) (s .tail) (s .h) request answer
+  Done DsmSynch = Unit
+
+  pub done : (m : Method) → Standing m f s past → Done m
+  done CcSynch now = λ request answer.
+      let stays = null-alone CcSynch now in
+      let sound = now .layers .sound in
+      let th = thread-fits CcSynch s t (sound .shape) (sound .range) below in
+      let limit : s .h < 256 = omega (arith, now .going .h, fits .head .h) in
+      ccRefusal.unwrapped (named s t) (nodeBy CcSynch s t) (s .tail) (s .h) request answer (line s t) stays (omega (arith, th .few)) (omega (arith, th .few, th .counted)) limit (omega (arith, th .served))
+      ∙ sym (ccRefusal.goes-ahead (named s t) (nodeBy CcSynch s t) (s .tail) (s .h) request answer stays)
+  done DsmSynch now = tt
 
   -- every entry keeps it that meets no null
   layers-next : (m : Method) → Standing m f s past → length past < 32768 → nullMetBy m s t ≡ false → Layered m f (enteredBy m s t) (entryBy m s t ∷ past)

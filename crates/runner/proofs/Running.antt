@@ -7,11 +7,12 @@ use mathlib.Core.Path.{_≡_, refl, sym, ap, subst, _∙_}
 use mathlib.Core.Bool.{Bool, true, false, cond}
 use mathlib.Core.List.{List, [], _∷_, map, reverseAux}
 use lib.ListN.{length, getD, set, drop, replicate, drop-of-length-le, List·getD-eq-default}
-use lib.Seq.{drop-cons, set-out}
+use lib.Seq.{drop-cons, set-out, set-getD}
 use Rattle.object.specs.Each.{Each}
 use Rattle.bench_file.specs.Layout.{Fields}
 use Rattle.bench_file.specs.Bytes.{InRange}
 use Rattle.object.specs.declared.Kind.{Kind}
+use Rattle.object.specs.declared.Request.{Request}
 use Rattle.object.specs.declared.Answer.{Answer}
 use Rattle.object.specs.declared.Answer.the-variants.{Empty}
 use Rattle.object.specs.declared.Object.{Object}
@@ -26,10 +27,14 @@ use Rattle.machine.specs.declared.ThreadId.{ThreadId}
 use Rattle.machine.specs.declared.Event.{Event}
 use Rattle.machine.specs.declared.Event.the-variants.{Swaps, TurnBegins, Applies}
 use Rattle.machine.specs.declared.Row.{Row}
+use Rattle.machine.specs.Accesses.{writesAny}
 use Rattle.machine.specs.Events.{sameEvent}
 use Rattle.machine.specs.Lines.{upFrom}
 use Rattle.machine.specs.Methods.{lastLine}
 use Rattle.machine.specs.Sizes.{mostCalls, mostNodes}
+use Rattle.cc_lines.specs.Lines as ccLines
+use Rattle.cc_synch.specs.Effect as ccEffect
+use Rattle.dsm_synch.specs.Effect as dsmEffect
 use Rattle.methods.specs.Methods.{rowBy, spinLine, spinNode}
 use Rattle.methods.specs.Methods as methods
 use Rattle.state.specs.declared.Counts.{Counts}
@@ -37,8 +42,8 @@ use Rattle.state.specs.declared.State.{State}
 use Rattle.state.specs.Range.{inRangeBy, countsInRange}
 use Rattle.state.specs.Shape.{Shaped}
 use Rattle.step.specs.Entry.{zeroNode, servedBy, appliedAt, plus, wrapped, named, line}
-use Rattle.step.specs.ByMethod.{pointsToBy, eventBy, appliedBy, effectBy, enteredBy, outBy, nullMetBy}
-use Rattle.step.proofs.Entering.{Called, made, at-points, is-event, is-applied, remote-is, sums, line-out, line-through, entered-by, fits-wrapped}
+use Rattle.step.specs.ByMethod.{pointsToBy, nodeBy, eventBy, appliedBy, effectBy, enteredBy, outBy, nullMetBy}
+use Rattle.step.proofs.Entering.{Called, made, at-points, is-node, is-event, is-applied, unwritten, remote-is, sums, line-out, line-through, entered-by, fits-wrapped}
 use Rattle.step.proofs.Soundness.{Sound}
 use Rattle.history.specs.Entries.{Entry, threadId, is, Is, howMany, remoteIn}
 use Rattle.history.specs.Terms.{noCall, noTurn}
@@ -49,7 +54,7 @@ use Rattle.kept.specs.declared.Kept.{Kept}
 use Rattle.runner.specs.declared.Played.{Played}
 use Rattle.kept.specs.Kept.{placeOf, callAt, keptOf, unkept, afterEntry, afterServing}
 use Rattle.runner.specs.Played.{Startable, unplayed, playedFrom}
-use Rattle.runner.proofs.Invariant.{Standing, standing-start, swaps-most, Next, sound, line-most, waited-below, begun-now, null-alone, standing-next, next-of, remote-of}
+use Rattle.runner.proofs.Invariant.{Standing, standing-start, swaps-most, Next, sound, line-most, waited-below, begun-now, null-alone, Done, done, standing-next, next-of, remote-of}
 use Rattle.runner.proofs.Tabled.{is-tabled}
 use Rattle.runner.proofs.Tables.{Tables, tables-start, place, served, enteredCalls, servedCalls, orderAfter, givenAfter, turnsAfter, place-below, served-below, tables-next}
 
@@ -142,6 +147,10 @@ module _ (m : Method) (f : Fields) (bytes : List ℕ) (fits : InRange f) where
     pub only-null : outBy m s t ≡ nullMetBy m s t
     only-null = null-alone f fits s (x .past) t below m (x .standing)
 
+    -- and what it does in CC-Synch is what Algorithm 1 does
+    pub line-done : Done f fits s (x .past) t below m
+    line-done = done f fits s (x .past) t below m (x .standing)
+
     pub null-met : nullMetBy m s t ≡ true → meetsNoNull m (startBy m f) (f .schedule) ≡ false
     unfolding meetsNoNull
     null-met met = sym (x .clear) ∙ ap (meetsNoNull m s) here ∙ rw met
@@ -188,6 +197,23 @@ module _ (m : Method) (f : Fields) (bytes : List ℕ) (fits : InRange f) where
         clear = clear-next;
       }
 
+    -- what `run_line` answers for the entry's line, at a node
+    abbrev Answers : Node → Request → Answer → Effect → Method → Type 0
+    Answers xn request answer e m′ =
+        e ≡ methods.effectBy m′ (t .0) (named s t) xn (getD (s .nodes) (methods.behindBy m′ (xn .next) .0) zeroNode) (s .tail) (s .h) request answer
+
+    -- so does the loop's own call by either method
+    module _ (xn : Node) (request : Request) {h′ : ℕ} {answer answer′ : Answer} {e : Effect} (limit : h′ ≡ s .h) (same : answer ≡ answer′) where
+      pub cc-answers : {k : ℕ} → m ≡ CcSynch → k ≡ line s t → xn ≡ nodeBy m s t
+          → e ≡ ccEffect.wrapped (ccEffect.executed (named s t) xn (s .tail) h′ request answer (ccLines.lineOf k)) → Answers xn request answer′ e m
+      cc-answers by runs at e′ =
+          subst (λ (m′ : Method). xn ≡ nodeBy m′ s t → Done f fits s (x .past) t below m′ → Answers xn request answer′ e m′) (sym by)
+          (λ at done. e′ ∙ rw (runs, limit, same, at) (done request answer′)) at line-done
+
+      pub dsm-answers : {yn : Node} → m ≡ DsmSynch → yn ≡ getD (s .nodes) (xn .next .0) zeroNode
+          → e ≡ dsmEffect.effectOf (t .0) (named s t) xn yn (s .tail) h′ request answer → Answers xn request answer′ e m
+      dsm-answers by behind e′ = subst (Answers xn request answer′ e) (sym by) (rw (← behind, ← limit, ← same) e′)
+
     -- what the loop's own calls answered for the entry, and what the notes left in the arrays
     pub record Booked (d : Kept) (ev : Event) (applies : Bool) (p a : NodeId) (answer : Answer) (e : Effect) (remote call served : ℕ) (order′ given′ turns′ : List ℕ) (mine theirs : Kept) : Type 0 where
       pub of-applies : applies ≡ sameEvent ev Applies
@@ -208,6 +234,9 @@ module _ (m : Method) (f : Fields) (bytes : List ℕ) (fits : InRange f) where
       range : inRangeBy m s ≡ true
       range = sound m f s (x .past) (x .standing) .range
 
+      pub is-found : xn ≡ nodeBy m s t
+      is-found = is-node m s t shape range below called
+
       -- a line that is refused meets null, and so the run is 14
       pub refused-run : (e .refusal ≡ 0 → ⊥) → unplayed 14 ≡ playedFrom (startBy m f) (f .schedule)
       refused-run q = let met = sym only-null ∙ line-out m s t shape range below called q in rw (null-met met)
@@ -219,6 +248,10 @@ module _ (m : Method) (f : Fields) (bytes : List ℕ) (fits : InRange f) where
 
         is-effect : e ≡ effectBy m s t
         is-effect = line-through m s t shape range below called done .1
+
+        -- where its row writes no node all stay as they are
+        pub nodes-stay : writesAny r ≡ false → set (s .nodes) (w .0) (e .node) ≡ s .nodes
+        nodes-stay = unwritten m s t shape range below called is-effect
 
         is-remote : remote ≡ remoteIn (entryBy m s t .remote)
         is-remote = remote-is m s t shape range below called ∙ remote-of m s t
@@ -290,6 +323,17 @@ module _ (s J : State) (answer : Answer) (ev : Event) (req : Announced) where
 
   pub serves-none : sameEvent ev Applies ≡ false → answer ≡ Empty → J ≡ s → Serves s J answer (appliedAt ev (s .kind) (s .capacity) (s .object) req)
   serves-none q a j = rw q (record { answers = a; state = j })
+
+-- what the branch leaves of the calls: the one at g served, if one is; no call stands for the entry's own, at c, which stays
+module _ (calls : List Kept) (d : Kept) (g c : ℕ) (answer : Answer) (t : ThreadId) (turn : ℕ) (applies : Bool) (after : List Kept) where
+  abbrev pub Stored : Type 0
+  Stored = after ≡ set calls (cond applies g c) (afterServing (getD calls (cond applies g c) d) applies answer t turn)
+
+  pub stores-one : applies ≡ true → after ≡ set calls g (afterServing (getD calls g d) true answer t turn) → Stored
+  stores-one q e = rw q e
+
+  pub stores-none : applies ≡ false → after ≡ calls → Stored
+  stores-none q e = rw q (e ∙ sym (set-getD calls c d))
 
 -- a node that is read, or what stands for one past the end of the array
 pub read-there : (nodes : List Node) {i : ℕ} {x : Node} → x ≡ zeroNode → length nodes ≤ i → x ≡ getD nodes i zeroNode
@@ -364,12 +408,12 @@ module _ {bytes : List ℕ} {start : State} {method : Method} {rows : List Row} 
   module _ (inside : i < length bytes) {k c remote : ℕ} {r : Row} {p w : NodeId} {xn yn : Node} {ev : Event} {ob : Applied} {e : Effect} {copies : List ℕ} {more : Counts}
       (called : Called method s (threadId (getD bytes i 0)) k r p xn yn ev c ob e remote copies w more) where
     -- one more entry
-    pub looping-next : {call their : ℕ} {order′ given′ turns′ : List ℕ} {nodes : List Node} {counts : Counts} {d mine theirs : Kept} {applies : Bool} {a : NodeId} {J : State} {answer : Answer}
-        → e .refusal ≡ 0 → Serves s J answer ob → nodes ≡ set (s .nodes) (w .0) (e .node) → counts ≡ wrapped (plus (s .counts) more)
+    pub looping-next : {call their : ℕ} {order′ given′ turns′ : List ℕ} {nodes : List Node} {counts : Counts} {d mine theirs : Kept} {calls : List Kept} {applies : Bool} {a : NodeId} {J : State} {answer : Answer}
+        → calls ≡ set (set kept call mine) their theirs → e .refusal ≡ 0 → Serves s J answer ob → nodes ≡ set (s .nodes) (w .0) (e .node) → counts ≡ wrapped (plus (s .counts) more)
         → Booked method (x .file) bytes (x .fits) (x .running) inside d ev applies p a answer e remote call their order′ given′ turns′ mine theirs
-        → Looping bytes start method rows spin n h kind capacity (i + 1) (made J (threadId (getD bytes i 0)) nodes (J .object) e copies counts) (set (set kept call mine) their theirs) order′ given′ turns′
-    looping-next done serves stored sum b =
-        rw (serves .state)
+        → Looping bytes start method rows spin n h kind capacity (i + 1) (made J (threadId (getD bytes i 0)) nodes (J .object) e copies counts) calls order′ given′ turns′
+    looping-next after done serves stored sum b =
+        rw (serves .state, after)
         (looping-on refl refl refl refl inside (running-booked method (x .file) bytes (x .fits) (x .running) inside called done stored sum (rw (serves .answers) at b)))
 
     -- or the run is refused

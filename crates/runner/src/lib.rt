@@ -4,6 +4,7 @@ ghost use Rattle.bench_file.specs.Layout.{judgeOf};
 ghost use Rattle.runner.specs.Played.{Startable, playedFrom, unplayed, playedIn};
 use kept::Kept;
 use machine::Event;
+use machine::Method;
 use machine::ThreadId;
 use object::Answer;
 use state::Counts;
@@ -104,23 +105,18 @@ fn from_start(schedule: &[u8], start: State) -> Played
             answer = applied.answer;
             state.object = object_after;
         }
-        let looked = methods::node_behind(method, next);
-        let b = looked.0 as usize;
-        let mut behind = step::zero_node();
-        if b < machine::NODES {
-            behind = state.nodes[b];
-        }
-        let effect = methods::run_line(
-            method,
-            thread,
-            named,
-            node,
-            behind,
-            tail,
-            h,
-            request,
-            answer,
-        );
+        // No line of CC-Synch is refused in a run; one of DSM-Synch is where it meets null.
+        let effect = match method {
+            Method::CcSynch => cc_synch::executed(line, named, node, tail, h, request, answer),
+            Method::DsmSynch => {
+                let b = next.0 as usize;
+                let mut behind = step::zero_node();
+                if b < machine::NODES {
+                    behind = state.nodes[b];
+                }
+                dsm_synch::run_line(thread, named, node, behind, tail, h, request, answer)
+            }
+        };
         if effect.refusal != 0 {
             return unplayed(14);
         }
@@ -143,15 +139,22 @@ fn from_start(schedule: &[u8], start: State) -> Played
         let tail_after = effect.tail;
         let counts_after = step::plus(counts, more);
         state.threads[t] = thread_after;
-        if w < machine::NODES {
-            state.nodes[w] = node_after;
+        if machine::writes_any(accesses) {
+            if w < machine::NODES {
+                state.nodes[w] = node_after;
+            }
         }
         state.tail = tail_after;
         state.counts = counts_after;
         let call = step::call_place(thread, thread_after.begun);
-        let turn = turns[t];
-        let to = kept::given_at(&given, points);
-        let served = kept::served_place(applies, to, call);
+        let mine = kept[call];
+        kept[call] = kept::after_entry(mine, event, remote, i as u32);
+        if applies {
+            let turn = turns[t];
+            let served = kept::given_at(&given, points) as usize;
+            let theirs = kept[served];
+            kept[served] = kept::after_serving(theirs, answer, thread, turn);
+        }
         let assigned = methods::assigned(method, tail, named.my);
         kept::note_entry(
             &mut turns,
@@ -163,10 +166,6 @@ fn from_start(schedule: &[u8], start: State) -> Played
             counts,
             call,
         );
-        let mine = kept[call];
-        kept[call] = kept::after_entry(mine, event, remote, i as u32);
-        let theirs = kept[served];
-        kept[served] = kept::after_serving(theirs, applies, answer, thread, turn);
         i += 1;
     }
     let counts = state.counts;

@@ -7,6 +7,7 @@ use mathlib.Core.Path.{_≡_, refl, sym, ap, _∙_}
 use mathlib.Core.Bool.{Bool, true, false, cond, not, _&&_}
 use mathlib.Core.List.{List}
 use lib.ListN.{getD, set}
+use lib.Seq.{set-getD}
 use lib.Dec.{eqb}
 use borrow.Author.Tests.{le-leb, lt-leb}
 use Rattle.object.specs.declared.Object.{Object}
@@ -22,7 +23,7 @@ use Rattle.machine.specs.declared.Thread.{Thread}
 use Rattle.machine.specs.declared.Event.{Event}
 use Rattle.machine.specs.declared.Row.{Row}
 use Rattle.machine.specs.declared.Effect.{Effect}
-use Rattle.machine.specs.Accesses.{pointed, accessesOf, writtenOf}
+use Rattle.machine.specs.Accesses.{pointed, accessesOf, writesAny, writtenOf}
 use Rattle.machine.specs.Events.{eventFound}
 use Rattle.machine.specs.Methods.{lastNode}
 use Rattle.machine.specs.Sizes.{mostCalls}
@@ -39,7 +40,7 @@ use Rattle.step.specs.Entry.{zeroNode, zeroSlot, appliedAt, moreOf, plus
 use Rattle.step.specs.ByMethod.{pointsToBy, nodeBy, behindBy, writtenBy, eventBy, appliedBy, effectBy, accessesBy, referencesBy, countsAfterBy, enteredBy, outBy}
 use Rattle.step.specs.Step.{refused, outcomeBy, stepOf}
 use Rattle.step.proofs.Outcome.{thread-fits, begun-few, goes-through-exactly}
-use Rattle.step.proofs.Rows.{row-points, row-accesses, row-writes, row-event, HasNodes, goes-through, refused-out}
+use Rattle.step.proofs.Rows.{row-points, row-accesses, row-writes, row-event, HasNodes, row-leaves, goes-through, refused-out}
 
 -- counts that fit do not wrap
 pub fits-wrapped : (c : Counts) → countsInRange c ≡ true → wrapped c ≡ c
@@ -148,6 +149,12 @@ module _ (m : Method) (s : State) (t : ThreadId) (shape : Shaped s) (fits : inRa
 
     pub is-written : w ≡ writtenBy m s t
     is-written = called .written-to ∙ rw (is-row, at-points, is-node) (row-writes m (named s t) (nodeBy m s t) (line s t))
+
+    -- where the row writes no node all stay as they are
+    pub unwritten : e ≡ effectBy m s t → writesAny r ≡ false → set (s .nodes) (w .0) (e .node) ≡ s .nodes
+    unwritten done none =
+        let left = row-leaves (t .0) (named s t) (nodeBy m s t) (behindBy m s t) (s .tail) (s .h) (request s t) (appliedBy m s t .answer) m (line s t) (rw is-row at none) in
+        rw (is-written, done, left .0, left .1) (set-getD (s .nodes) (pointsToBy m s t .0) zeroNode)
 
     pub sums : plus (s .counts) more ≡ countsAfterBy m s t
     sums = rw (called .more-of, remote-is, is-event) refl

@@ -1,7 +1,7 @@
 -- What a line's row says of it, and what `run_line` answers for it, by the method: what the definitions line by line say. Assumes what the laws' premises say.
 use Prim.Native.Nat.{ℕ, _≤_, _<_}
 use mathlib.Core.Path.{_≡_, refl, _∙_}
-use mathlib.Core.Bool.{true, false}
+use mathlib.Core.Bool.{true, false, cond}
 use lib.Dec.{eqb}
 use Rattle.object.specs.declared.Request.{Request}
 use Rattle.object.specs.declared.Answer.{Answer}
@@ -10,14 +10,19 @@ use Rattle.machine.specs.declared.Method.the-variants.{CcSynch, DsmSynch}
 use Rattle.machine.specs.declared.NodeId.{NodeId}
 use Rattle.machine.specs.declared.Node.{Node}
 use Rattle.machine.specs.declared.Thread.{Thread}
-use Rattle.machine.specs.Accesses.{pointed, accessesOf, writtenOf}
+use Rattle.machine.specs.Accesses.{pointed, accessesOf, writesAny, writtenOf}
 use Rattle.machine.specs.Events.{eventFound}
 use Rattle.machine.specs.Lines.{lineRun}
 use Rattle.cc_lines.specs.Lines as ccLines
+use Rattle.cc_lines.proofs.Numbers as ccNumbers
 use Rattle.cc_lines.proofs.Table as ccTable
+use Rattle.cc_synch.specs.Effect as ccEffect
 use Rattle.cc_synch.proofs.Refusal as ccRefusal
 use Rattle.dsm_lines.specs.Lines as dsmLines
+use Rattle.dsm_lines.specs.Rows as dsmRows
+use Rattle.dsm_lines.proofs.Numbers as dsmNumbers
 use Rattle.dsm_lines.proofs.Rows as dsmTable
+use Rattle.dsm_synch.specs.Effect as dsmEffect
 use Rattle.dsm_synch.proofs.Refusal as dsmRefusal
 use Rattle.methods.specs.Methods.{rowBy}
 use Rattle.methods.specs.Methods as methods
@@ -47,6 +52,18 @@ HasNodes CcSynch t th = Unit
 HasNodes DsmSynch t th = (t < 16) × (th .toggle ≤ 1)
 
 module _ (t : ℕ) (th : Thread) (x y : Node) (tail : NodeId) (h : ℕ) (request : Request) (answer : Answer) where
+  -- a line whose row writes no node leaves the one that it points to, which then stands for the node that it writes
+  pub row-leaves : (m : Method) (k : ℕ) → writesAny (rowBy m k) ≡ false
+      → (lineWrites m th x k ≡ linePoints m th k) × (lineDone m t th x y tail h request answer k .node ≡ x)
+  row-leaves CcSynch k none = (
+    refl,
+    rw none at (ccNumbers.agree (λ l. cond (writesAny (ccLines.rowOf l)) x (ccEffect.executed th x tail h request answer l .node)) (λ l. x) refl refl (ccLines.lineOf k)),
+  )
+  row-leaves DsmSynch k none = (
+    rw none at (dsmNumbers.agree (λ l. cond (writesAny (dsmRows.rowOf l)) (dsmLines.pointed th l) (dsmLines.target th x l)) (dsmLines.pointed th) refl refl (dsmLines.lineOf k)),
+    rw none at (dsmNumbers.agree (λ l. cond (writesAny (dsmRows.rowOf l)) x (dsmEffect.executed t th x y tail h request answer l .node)) (λ l. x) refl refl (dsmLines.lineOf k)),
+  )
+
   -- a line that is not 14 for a cause of its own is done
   pub goes-ahead : (m : Method) → HasNodes m t th → lineOut m th x h (lineRun th) ≡ false
       → methods.effectBy m t th x y tail h request answer ≡ lineDone m t th x y tail h request answer (lineRun th)

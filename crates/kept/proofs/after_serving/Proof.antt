@@ -10,11 +10,8 @@ answer-value-requires : tie.Need-answer-value-requires
 answer-value-requires c κs = search needs
 
 returns : tie.Need-returns
-returns c = simp (c .answer-value .ensures, c .before .answer-mark .ensures, c .before .before .if1 .taken)
-
-returns-2 : tie.Need-returns-2
-returns-2 c = search needs
+returns c = simp (c .answer-value .ensures, c .before .answer-mark .ensures)
 
 pub after-serving-spec : {M : Type 1} → statement M
 after-serving-spec =
-    tie.close (tie.spec answer-mark-requires answer-value-requires returns returns-2)
+    tie.close (tie.spec answer-mark-requires answer-value-requires returns)

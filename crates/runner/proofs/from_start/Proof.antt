@@ -2,7 +2,7 @@
 use Prim.Native.Nat.{ℕ, _+_, _-_, _^_, _<_}
 use native.Mathlib.Omega.{arith}
 use mathlib.Core.Path.{_≡_, refl, sym, ap, ap₂, _∙_}
-use mathlib.Core.Bool.{cond}
+use mathlib.Core.Bool.{Bool, true, cond}
 use mathlib.Core.Logic.{⊎-elim}
 use mathlib.Core.List.{List}
 use lib.ListN.{length, getD, set, replicate}
@@ -19,7 +19,7 @@ use Rattle.machine.specs.declared.Node.{Node}
 use Rattle.machine.specs.declared.Row.{Row}
 use Rattle.machine.specs.declared.ThreadId.{ThreadId}
 use Rattle.machine.specs.declared.Event.the-variants.{Blank}
-use Rattle.machine.specs.Accesses.{accessesOf, writtenOf}
+use Rattle.machine.specs.Accesses.{accessesOf, writtenOf, writesAny}
 use Rattle.machine.specs.Events.{sameEvent}
 use Rattle.machine.specs.Sizes.{mostCalls, mostNodes}
 use Rattle.methods.specs.Methods.{rowBy, spinLine}
@@ -29,10 +29,13 @@ use Rattle.copies.specs.Remote.{Referred, referredBy}
 use Rattle.state.specs.declared.Counts.{Counts}
 use Rattle.state.specs.declared.State.{State}
 use Rattle.step.specs.Entry.{zeroNode, zeroSlot, moreOf, named, servedBy, appliedAt}
+use Rattle.step.specs.ByMethod.{nodeBy}
 use Rattle.step.proofs.Entering.{Called}
 use Rattle.history.specs.Entries.{threadId}
+use Rattle.kept.specs.declared.Kept.{Kept}
+use Rattle.kept.specs.Kept.{afterServing}
 use Rattle.history.proofs.Places.{getD-any}
-use Rattle.runner.proofs.Running.{Looping, number-few, thread-few, line-last, line-few, slot-few, waited-few, nodes-long, call-below, their-below, fine, is-call, is-served, Serves, serves-one, serves-none, read-there, looping-start, looping-next, looping-null, looping-ends}
+use Rattle.runner.proofs.Running.{Looping, cc-answers, dsm-answers, is-found, nodes-stay, Stored, stores-one, stores-none, number-few, thread-few, line-last, line-few, slot-few, waited-few, nodes-long, call-below, their-below, fine, is-call, is-served, Serves, serves-one, serves-none, read-there, looping-start, looping-next, looping-null, looping-ends}
 use Rattle.runner.proofs.Quiet.{Quiet, blankMore, blank-quiet, spinMore, spin-quiet, counts-fit, looping-quiet}
 use Rattle.runner.proofs.from_start.Statement.{statement}
 use Rattle.runner.proofs.from_start.Tie as tie
@@ -82,26 +85,23 @@ pointed c = found (told (eventful c))
 abbrev placed : tie.Joined5 Inv-loop μ-loop → tie.After-call-place Inv-loop μ-loop
 placed c = c .before .before .before
 
-abbrev applies-of : tie.Joined6 Inv-loop μ-loop → tie.Joined5 Inv-loop μ-loop
-applies-of c = c .before .before .before .before
-
-abbrev ran : tie.After-more-of Inv-loop μ-loop → tie.After-run-line Inv-loop μ-loop
+abbrev ran : tie.After-more-of Inv-loop μ-loop → tie.At-match-came Inv-loop μ-loop
 ran c = c .before .before .before .before .before .before
 
-abbrev joined : tie.After-run-line Inv-loop μ-loop → tie.Joined5 Inv-loop μ-loop
-joined c = applies-of (c .before)
+abbrev joined : tie.At-match-came Inv-loop μ-loop → tie.Joined5 Inv-loop μ-loop
+joined c = c .before
 
-abbrev node-of : tie.After-run-line Inv-loop μ-loop → tie.After-pointed Inv-loop μ-loop
+abbrev node-of : tie.At-match-came Inv-loop μ-loop → tie.After-pointed Inv-loop μ-loop
 node-of c = pointed (placed (joined c))
 
-abbrev entry-of : tie.After-run-line Inv-loop μ-loop → tie.In-loop Inv-loop μ-loop
+abbrev entry-of : tie.At-match-came Inv-loop μ-loop → tie.In-loop Inv-loop μ-loop
 entry-of c = entry (lined (node-of c))
 
 abbrev writes : tie.After-plus Inv-loop μ-loop → tie.After-written Inv-loop μ-loop
 writes c = c .before .before .before .before .before
 
 abbrev counted : tie.After-call-place2 Inv-loop μ-loop → tie.After-written Inv-loop μ-loop
-counted c = writes (c .before .before)
+counted c = writes (c .before .before .before)
 
 -- its state and its thread, the row of its line, and what it applies
 abbrev state : tie.In-loop Inv-loop μ-loop → State
@@ -204,59 +204,83 @@ serves c =
 nodes-same : (c : tie.Joined5 Inv-loop μ-loop) → c .if5 .state .nodes ≡ state (entry (lined (pointed (placed c)))) .nodes
 nodes-same c = ap (λ (s : State). s .nodes) (serves c .state)
 
-behind-is : (c : tie.Joined6 Inv-loop μ-loop)
-    → let at = applies-of c in
-    let of-entry = entry (lined (pointed (placed at))) in
-    c .if6 .behind ≡ getD (state of-entry .nodes) (methods.behindBy (method of-entry) (node (told (eventful (placed at))) .next) .0) zeroNode
-behind-is c =
-    let at = applies-of c in
-    let of-entry = entry (lined (pointed (placed at))) in
-    let looked = c .before .before .before .node-behind in
-    let read : c .if6 .behind ≡ getD (state of-entry .nodes) (looked .result .0) zeroNode =
-    ⊎-elim (λ w. w .2 ∙ ap (λ (l : List Node). getD l (looked .result .0) zeroNode) (nodes-same at))
-    (λ w. read-there (state of-entry .nodes) (w .1 ∙ c .before .zero-node2 .ensures) (omega (arith, long of-entry, w .0 .left)))
-    (c .if6 .came) in
-    read ∙ ap (λ (m : NodeId). getD (state of-entry .nodes) (m .0) zeroNode) (looked .ensures)
+-- what the calls up to the line answered, with what the line does, its remote references, the node that it writes and what it adds to the counts
+abbrev Calls : (c : tie.Joined5 Inv-loop μ-loop) (e : Effect) (remote : ℕ) (copies : List ℕ) (w : NodeId) (more : Counts) → Type 0
+Calls c =
+    let at = pointed (placed c) in
+    let s = state (entry (lined at)) in
+    let t = thread (entry (lined at)) in
+    let m = method (entry (lined at)) in
+    let x = node (told (eventful (placed c))) in
+    Called m s t (lined at .line-run .result) (row (lined at)) (at .pointed .result) x (getD (s .nodes) (methods.behindBy m (x .next) .0) zeroNode) (eventful (placed c) .event-in .result) (placed c .call-place .result) (applied (eventful (placed c)))
 
--- what the calls up to the line answered, with its remote references, the node that it writes and what it adds to the counts
-called-by : (c : tie.After-run-line Inv-loop μ-loop) {remote : ℕ} {copies : List ℕ} {w : NodeId} {more : Counts}
-    → let at = node-of c in
-    let s = state (entry-of c) in
-    let t = thread (entry-of c) in
-    let m = method (entry-of c) in
-    let x = node (told (eventful (placed (joined c)))) in
+-- what `run_line` would answer, with the node behind that the line may look at
+abbrev answered : tie.Joined5 Inv-loop μ-loop → Effect
+answered c =
+    let at = pointed (placed c) in
+    let s = state (entry (lined at)) in
+    let t = thread (entry (lined at)) in
+    let m = method (entry (lined at)) in
+    let x = node (told (eventful (placed c))) in
+    methods.effectBy m (t .0) (named s t) x (getD (s .nodes) (methods.behindBy m (x .next) .0) zeroNode) (s .tail) (s .h) (getD (s .requests) (placed c .call-place .result) zeroSlot .request) (applied (eventful (placed c)) .answer)
+
+called-by : (c : tie.Joined5 Inv-loop μ-loop) {e : Effect} {remote : ℕ} {copies : List ℕ} {w : NodeId} {more : Counts}
+    → let at = pointed (placed c) in
+    let s = state (entry (lined at)) in
+    let t = thread (entry (lined at)) in
+    let m = method (entry (lined at)) in
+    let x = node (told (eventful (placed c))) in
     let references = referredBy m (s .n) (t .0) (s .copies) (accessesOf (row (lined at)) (at .pointed .result) (x .next)) in
-    remote ≡ references .remote → copies ≡ references .copies → w ≡ writtenOf (row (lined at)) (at .pointed .result) (x .next)
-    → more ≡ moreOf (eventful (placed (joined c)) .event-in .result) remote
-    → Called m s t (lined at .line-run .result) (row (lined at)) (at .pointed .result) x (c .before .if6 .behind) (eventful (placed (joined c)) .event-in .result) (placed (joined c) .call-place .result) (applied (eventful (placed (joined c)))) (c .run-line .result) remote copies w more
-called-by c remote copies written more =
-    let place = placed (joined c) .call-place in
-    let s = state (entry-of c) in
-    let t = thread (entry-of c) in
-    let now = entry-of c .before .loop .inv in
-    let x = node (told (eventful (placed (joined c)))) in
-    let effect : ℕ → Answer → Effect = λ h answer. methods.effectBy (method (entry-of c)) (t .0) (named s t) x (c .before .if6 .behind) (s .tail) h (getD (s .requests) (place .result) zeroSlot .request) answer in
+    e ≡ answered c → remote ≡ references .remote → copies ≡ references .copies → w ≡ writtenOf (row (lined at)) (at .pointed .result) (x .next)
+    → more ≡ moreOf (eventful (placed c) .event-in .result) remote → Calls c e remote copies w more
+called-by c effect remote copies written more =
+    let at = pointed (placed c) in
     record {
-      line-run = lined (node-of c) .line-run .ensures;
-      row-of = row-of (lined (node-of c));
-      pointed-to = node-of c .pointed .ensures;
-      node-at = node-is (told (eventful (placed (joined c))));
-      behind-at = behind-is (c .before);
-      event-in = eventful (placed (joined c)) .event-in .ensures;
-      place = place .ensures;
+      line-run = lined at .line-run .ensures;
+      row-of = row-of (lined at);
+      pointed-to = at .pointed .ensures;
+      node-at = node-is (told (eventful (placed c)));
+      behind-at = refl;
+      event-in = eventful (placed c) .event-in .ensures;
+      place = placed c .call-place .ensures;
       applied-at = refl;
-      effect-of = c .run-line .ensures ∙ ap₂ effect (now .limit) (serves (joined c) .answers);
+      effect-of = effect;
       remote-of = remote;
       copies-of = copies;
       written-to = written;
       more-of = more;
     }
 
--- and with what they answered
+-- the node that the line points to is the entry's
+node-so : (c : tie.Joined5 Inv-loop μ-loop)
+    → let at = entry (lined (pointed (placed c))) in node (told (eventful (placed c))) ≡ nodeBy (method at) (state at) (thread at)
+node-so c =
+    let at = entry (lined (pointed (placed c))) in
+    let now = at .before .loop .inv in
+    is-found _ _ _ (now .fits) (now .running) (at .loop-test .taken) (called-by c refl refl refl refl refl)
+
+-- what the line does: no test of 14 in CC-Synch, that of `run_line` in DSM-Synch
+effect-is : (c : tie.At-match-came Inv-loop μ-loop) → c .match .effect ≡ answered (c .before)
+effect-is c =
+    let at = joined c in
+    let of-entry = entry-of c in
+    let now = of-entry .before .loop .inv in
+    let nodes = state of-entry .nodes in
+    let x = node (told (eventful (placed at))) in
+    let request = getD (state of-entry .requests) (placed at .call-place .result) zeroSlot .request in
+    ⊎-elim
+    (λ w. cc-answers _ _ _ (now .fits) (now .running) (of-entry .loop-test .taken) x request (now .limit) (serves at .answers) (w .1 .given .1) (lined (node-of c) .line-run .ensures) (node-so at)
+    (w .3 ∙ w .2 .ensures))
+    (λ w. dsm-answers _ _ _ (now .fits) (now .running) (of-entry .loop-test .taken) x request (now .limit) (serves at .answers) (w .1 .given .1)
+    (⊎-elim (λ v. v .2 ∙ ap (λ (l : List Node). getD l (x .next .0) zeroNode) (nodes-same at))
+    (λ v. read-there nodes (v .1 ∙ w .3 .ensures) (omega (arith, long of-entry, v .0 .left)))
+    (w .4 .came))
+    (w .6 ∙ w .5 .ensures))
+    (c .match .came)
+
+-- and with what the calls after it answered
 called : (c : tie.After-written Inv-loop μ-loop)
-    → let run = ran (c .before) in
-    let at = node-of run in
-    Called (method (entry-of run)) (state (entry-of run)) (thread (entry-of run)) (lined at .line-run .result) (row (lined at)) (at .pointed .result) (node (told (eventful (placed (joined run))))) (run .before .if6 .behind) (eventful (placed (joined run)) .event-in .result) (placed (joined run) .call-place .result) (applied (eventful (placed (joined run)))) (run .run-line .result) (c .before .before .refer-all .result) (c .before .before .refer-all .last .1 .0) (c .written .result) (c .before .more-of .result)
+    → Calls (joined (ran (c .before))) (ran (c .before) .match .effect) (c .before .before .refer-all .result) (c .before .before .refer-all .last .1 .0) (c .written .result) (c .before .more-of .result)
 called c =
     let run = ran (c .before) in
     let at = node-of run in
@@ -264,11 +288,11 @@ called c =
     let referred = c .before .before .refer-all in
     let references = ap₂ (λ (n : ℕ) (s : State). referredBy (method (entry-of run)) n (t .0) (s .copies) (accessesOf (row (lined at)) (at .pointed .result) (node (told (eventful (placed (joined run)))) .next)))
     (entry-of run .before .loop .inv .threads) (serves (joined run) .state) in
-    called-by run (referred .ensures .0 ∙ ap (λ (r : Referred). r .remote) references) (referred .ensures .1 ∙ ap (λ (r : Referred). r .copies) references) (c .written .ensures)
+    called-by (joined run) (effect-is run) (referred .ensures .0 ∙ ap (λ (r : Referred). r .remote) references) (referred .ensures .1 ∙ ap (λ (r : Referred). r .copies) references) (c .written .ensures)
     (c .before .more-of .ensures)
 
 -- the line is not refused
-done : (c : tie.After-written Inv-loop μ-loop) → ran (c .before) .run-line .result .refusal ≡ 0
+done : (c : tie.After-written Inv-loop μ-loop) → ran (c .before) .match .effect .refusal ≡ 0
 done c = c .before .before .before .before .before .if7 .left
 
 -- the places of the entry's call and of the call that it serves
@@ -280,21 +304,17 @@ call-small c =
     let is = is-call _ _ _ (now .fits) (now .running) (at .loop-test .taken) (called all) (done all) (c .call-place2 .ensures) in
     omega (arith, is, call-below _ _ _ (now .fits) (now .running) (at .loop-test .taken) (fine _ _ _ (now .fits) (now .running) (at .loop-test .taken) (called all) (done all)))
 
-served-is : (c : tie.After-served-place Inv-loop μ-loop)
-    → let all = counted (c .before .before .before) in
-    c .served-place .result ≡ cond (placed (joined (ran (all .before))) .before .same-event2 .result) (getD (entry-of (ran (all .before)) .before .loop .given) (node-of (ran (all .before)) .pointed .result .0) 0) (c .before .before .before .call-place2 .result)
-served-is c =
-    let all = counted (c .before .before .before) in
-    c .served-place .ensures
-    ∙ ap (λ (k : ℕ). cond (placed (joined (ran (all .before))) .before .same-event2 .result) k (c .before .before .before .call-place2 .result)) (c .before .given-at .ensures)
-
-served-small : (c : tie.After-served-place Inv-loop μ-loop) → c .served-place .result < mostCalls
-served-small c =
-    let placing = c .before .before .before in
+their-small : (c : tie.After-given-at Inv-loop μ-loop) → c .given-at .result < mostCalls
+their-small c =
+    let placing = c .before .before .before .before .before in
     let all = counted placing in
-    let at = entry-of (ran (all .before)) in
+    let run = ran (all .before) in
+    let at = entry-of run in
     let now = at .before .loop .inv in
-    let is = is-served _ _ _ (now .fits) (now .running) (at .loop-test .taken) (called all) (done all) (placing .call-place2 .ensures) (placed (joined (ran (all .before))) .before .same-event2 .ensures) (served-is c) in
+    let applies = placed (joined run) .before .same-event2 in
+    let chosen : Bool → ℕ = λ serves. cond serves (getD (at .before .loop .given) (node-of run .pointed .result .0) 0) (placing .call-place2 .result) in
+    let is = is-served _ _ _ (now .fits) (now .running) (at .loop-test .taken) (called all) (done all) (placing .call-place2 .ensures) (applies .ensures)
+    (c .given-at .ensures ∙ sym (ap chosen (c .before .before .if10 .taken))) in
     omega (arith, is, their-below _ _ _ (now .fits) (now .running) (at .loop-test .taken) (fine _ _ _ (now .fits) (now .running) (at .loop-test .taken) (called all) (done all)))
 
 -- the entry's number
@@ -303,6 +323,10 @@ number-small c =
     let at = entry-of (ran (counted c .before)) in
     let now = at .before .loop .inv in
     number-few _ _ _ (now .fits) (now .running) (at .loop-test .taken)
+
+-- what stands in the place of a call past the end of the array
+abbrev zeroKept : Kept
+zeroKept = record { mark = 0; server = 0; value = 0; remote = 0; turn = 0; began = 0; returned = 0 }
 
 -- the state before Tail and the counts are stored: J has what was applied
 abbrev storedIn : State → ThreadId → Effect → List ℕ → List Node → State
@@ -322,19 +346,51 @@ storedIn J t e copies nodes = record {
 }
 
 stored : (c : tie.Joined8 Inv-loop μ-loop)
-    → let all = writes (c .before) in
+    → let all = writes (c .before .before) in
     let run = ran (all .before) in
     let J = joined run .if5 .state in
-    c .if8 .state ≡ storedIn J (thread (entry-of run)) (run .run-line .result) (all .before .before .refer-all .last .1 .0) (set (J .nodes) (all .written .result .0) (run .run-line .result .node))
+    c .if8 .state ≡ storedIn J (thread (entry-of run)) (run .match .effect) (all .before .before .refer-all .last .1 .0) (set (J .nodes) (all .written .result .0) (run .match .effect .node))
 stored c =
-    let all = writes (c .before) in
+    let all = writes (c .before .before) in
     let run = ran (all .before) in
+    let at = entry-of run in
+    let now = at .before .loop .inv in
     let J = joined run .if5 .state in
-    let inside : length (J .nodes) ≡ mostNodes = ap length (nodes-same (joined run)) ∙ long (entry-of run) in
-    let none = set-out (J .nodes) (all .written .result .0) (run .run-line .result .node) in
-    ⊎-elim (λ w. w .1)
-    (λ w. w .1 ∙ ap (storedIn J (thread (entry-of run)) (run .run-line .result) (all .before .before .refer-all .last .1 .0)) (sym (none (omega (arith, inside, w .0 .left)))))
+    let same = nodes-same (joined run) in
+    let inside : length (J .nodes) ≡ mostNodes = ap length same ∙ long at in
+    let none = set-out (J .nodes) (all .written .result .0) (run .match .effect .node) in
+    let with-nodes = storedIn J (thread at) (run .match .effect) (all .before .before .refer-all .last .1 .0) in
+    ⊎-elim (λ w. w .2)
+    (⊎-elim (λ w. w .2 ∙ ap with-nodes (sym (none (omega (arith, inside, w .1 .left)))))
+    (λ w. w .1
+    ∙ ap with-nodes
+    (same
+    ∙ sym (nodes-stay _ _ _ (now .fits) (now .running) (at .loop-test .taken) (called all) (done all) (sym (c .before .writes-any .ensures) ∙ w .0 .left))
+    ∙ ap (λ (l : List Node). set l (all .written .result .0) (run .match .effect .node)) (sym same))))
     (c .if8 .came)
+
+-- the calls after the entry: its own, and the one that it serves, if it does
+kept-is : (c : tie.Joined10 Inv-loop μ-loop)
+    → let call = c .before .before .before in
+    let run = ran (counted call .before) in
+    let at = entry-of run in
+    Stored (set (at .before .loop .kept) (call .call-place2 .result) (c .before .after-entry .result)) zeroKept (getD (at .before .loop .given) (node-of run .pointed .result .0) 0) (call .call-place2 .result) (joined run .if5 .answer) (thread at) (getD (at .before .loop .turns) (thread at .0) 0) (placed (joined run) .before .same-event2 .result) (c .if10 .kept)
+kept-is c =
+    let call = c .before .before .before in
+    let run = ran (counted call .before) in
+    let at = entry-of run in
+    let calls = set (at .before .loop .kept) (call .call-place2 .result) (c .before .after-entry .result) in
+    let g = getD (at .before .loop .given) (node-of run .pointed .result .0) 0 in
+    let own = call .call-place2 .result in
+    let answer = joined run .if5 .answer in
+    let turn = getD (at .before .loop .turns) (thread at .0) 0 in
+    let applies = placed (joined run) .before .same-event2 .result in
+    let served : ℕ → Kept = λ i. afterServing (getD calls i zeroKept) true answer (thread at) turn in
+    ⊎-elim
+    (λ w. stores-one calls zeroKept g own answer (thread at) turn applies (c .if10 .kept) (w .0 .taken)
+    (w .5 ∙ ap₂ (λ (i : ℕ) (k : Kept). set calls i k) (w .2 .ensures) (w .4 .ensures ∙ ap served (w .2 .ensures))))
+    (λ w. stores-none calls zeroKept g own answer (thread at) turn applies (c .if10 .kept) (w .0 .left) (w .1))
+    (c .if10 .came)
 
 all-rows-requires : tie.Need-all-rows-requires Inv-loop μ-loop
 all-rows-requires c κs = search needs
@@ -348,8 +404,8 @@ unkept-requires c κs = search needs
 loop-holds : tie.Need-loop-holds Inv-loop μ-loop
 loop-holds c = looping-start (c .before .before .all-rows .ensures) (c .before .spin-line .ensures) (ap (replicate mostCalls) (c .unkept .ensures)) (c .before .before .before .before .pre)
 
-shared-slice-read-t70 : tie.Need-shared-slice-read-t70 Inv-loop μ-loop
-shared-slice-read-t70 c = c .before .loop-test .taken
+shared-slice-read-t68 : tie.Need-shared-slice-read-t68 Inv-loop μ-loop
+shared-slice-read-t68 c = c .before .loop-test .taken
 
 cast-t : tie.Need-cast-t Inv-loop μ-loop
 cast-t c = omega (arith, thread-below (c .before .before))
@@ -462,8 +518,14 @@ element-copy-out-slot c = place-below c
 served-by-requires : tie.Need-served-by-requires Inv-loop μ-loop
 served-by-requires c κs = search needs
 
-node-behind-requires : tie.Need-node-behind-requires Inv-loop μ-loop
-node-behind-requires c κs = search needs
+enum-told : tie.Need-enum-told Inv-loop μ-loop
+enum-told c = search needs
+
+executed-requires : tie.Need-executed-requires Inv-loop μ-loop
+executed-requires c κs = search needs
+
+enum-told-2 : tie.Need-enum-told-2 Inv-loop μ-loop
+enum-told-2 c = search needs
 
 cast-b : tie.Need-cast-b Inv-loop μ-loop
 cast-b c = search needs
@@ -487,7 +549,8 @@ returns : tie.Need-returns Inv-loop μ-loop
 returns c =
     let run = c .before .before .before in
     let at = entry-of run in
-    c .unplayed .ensures ∙ looping-null (at .before .loop .inv) (at .loop-test .taken) (called-by run refl refl refl refl) (c .before .if7 .taken)
+    c .unplayed .ensures
+    ∙ looping-null (at .before .loop .inv) (at .loop-test .taken) (called-by (joined run) (effect-is run) refl refl refl refl) (c .before .if7 .taken)
 
 cast-accesses : tie.Need-cast-accesses Inv-loop μ-loop
 cast-accesses c = omega (arith, line-below (lined (node-of (c .before .before))))
@@ -519,6 +582,9 @@ mul-thread-after c = omega (arith, thread-below (entry-of (ran (writes c .before
 element-set-from-thread-after : tie.Need-element-set-from-thread-after Inv-loop μ-loop
 element-set-from-thread-after c = thread-below (entry-of (ran (writes c .before)))
 
+writes-any-requires : tie.Need-writes-any-requires Inv-loop μ-loop
+writes-any-requires c κs = search needs
+
 mul-node-after : tie.Need-mul-node-after Inv-loop μ-loop
 mul-node-after c = search needs
 
@@ -528,20 +594,53 @@ element-set-from-node-after c = search needs
 call-place-requires-2 : tie.Need-call-place-requires-2 Inv-loop μ-loop
 call-place-requires-2 c κs = search needs
 
+mul-mine : tie.Need-mul-mine Inv-loop μ-loop
+mul-mine c = omega (arith, call-small c)
+
+array-copy-out-mine : tie.Need-array-copy-out-mine Inv-loop μ-loop
+array-copy-out-mine c = call-small c
+
+cast-after-entry : tie.Need-cast-after-entry Inv-loop μ-loop
+cast-after-entry c = omega (arith, number-small (c .before))
+
+after-entry-requires : tie.Need-after-entry-requires Inv-loop μ-loop
+after-entry-requires c κs = search needs
+
+mul-kept : tie.Need-mul-kept Inv-loop μ-loop
+mul-kept c = omega (arith, call-small (c .before .before))
+
+array-set-from-kept : tie.Need-array-set-from-kept Inv-loop μ-loop
+array-set-from-kept c = call-small (c .before .before)
+
 mul-turn : tie.Need-mul-turn Inv-loop μ-loop
-mul-turn c = omega (arith, thread-below (entry-of (ran (counted c .before))))
+mul-turn c = omega (arith, thread-below (entry-of (ran (counted (c .before .before .before) .before))))
 
 array-read-turn : tie.Need-array-read-turn Inv-loop μ-loop
-array-read-turn c = thread-below (entry-of (ran (counted c .before)))
+array-read-turn c = thread-below (entry-of (ran (counted (c .before .before .before) .before)))
 
 slice-aggregate-given-at : tie.Need-slice-aggregate-given-at Inv-loop μ-loop
-slice-aggregate-given-at c = sym (entry-of (ran (counted (c .before) .before)) .before .loop .inv .running .tables .nodes-long)
+slice-aggregate-given-at c = sym (entry-of (ran (counted (c .before .before .before .before) .before)) .before .loop .inv .running .tables .nodes-long)
 
 given-at-requires : tie.Need-given-at-requires Inv-loop μ-loop
 given-at-requires c κs = search needs
 
-served-place-requires : tie.Need-served-place-requires Inv-loop μ-loop
-served-place-requires c κs = search needs
+cast-served : tie.Need-cast-served Inv-loop μ-loop
+cast-served c = search needs
+
+mul-theirs : tie.Need-mul-theirs Inv-loop μ-loop
+mul-theirs c = omega (arith, their-small c)
+
+array-copy-out-theirs : tie.Need-array-copy-out-theirs Inv-loop μ-loop
+array-copy-out-theirs c = their-small c
+
+after-serving-requires : tie.Need-after-serving-requires Inv-loop μ-loop
+after-serving-requires c κs = search needs
+
+mul-kept-2 : tie.Need-mul-kept-2 Inv-loop μ-loop
+mul-kept-2 c = omega (arith, their-small (c .before .before))
+
+array-set-from-kept-2 : tie.Need-array-set-from-kept-2 Inv-loop μ-loop
+array-set-from-kept-2 c = their-small (c .before .before)
 
 assigned-requires : tie.Need-assigned-requires Inv-loop μ-loop
 assigned-requires c κs = search needs
@@ -549,42 +648,9 @@ assigned-requires c κs = search needs
 note-entry-requires : tie.Need-note-entry-requires Inv-loop μ-loop
 note-entry-requires c κs = search needs
 
-mul-mine : tie.Need-mul-mine Inv-loop μ-loop
-mul-mine c = omega (arith, call-small (c .before .before .before .before .before .before .before .before))
-
-array-copy-out-mine : tie.Need-array-copy-out-mine Inv-loop μ-loop
-array-copy-out-mine c = call-small (c .before .before .before .before .before .before .before .before)
-
-cast-after-entry : tie.Need-cast-after-entry Inv-loop μ-loop
-cast-after-entry c = omega (arith, number-small (c .before .before .before .before .before .before .before .before .before))
-
-after-entry-requires : tie.Need-after-entry-requires Inv-loop μ-loop
-after-entry-requires c κs = search needs
-
-mul-kept : tie.Need-mul-kept Inv-loop μ-loop
-mul-kept c = omega (arith, call-small (c .before .before .before .before .before .before .before .before .before .before))
-
-array-set-from-kept : tie.Need-array-set-from-kept Inv-loop μ-loop
-array-set-from-kept c = call-small (c .before .before .before .before .before .before .before .before .before .before)
-
-mul-theirs : tie.Need-mul-theirs Inv-loop μ-loop
-mul-theirs c = omega (arith, served-small (c .before .before .before .before .before .before .before))
-
-array-copy-out-theirs : tie.Need-array-copy-out-theirs Inv-loop μ-loop
-array-copy-out-theirs c = served-small (c .before .before .before .before .before .before .before)
-
-after-serving-requires : tie.Need-after-serving-requires Inv-loop μ-loop
-after-serving-requires c κs = search needs
-
-mul-kept-2 : tie.Need-mul-kept-2 Inv-loop μ-loop
-mul-kept-2 c = omega (arith, served-small (c .before .before .before .before .before .before .before .before .before))
-
-array-set-from-kept-2 : tie.Need-array-set-from-kept-2 Inv-loop μ-loop
-array-set-from-kept-2 c = served-small (c .before .before .before .before .before .before .before .before .before)
-
 -- from the end of the loop back to the entry's call
-abbrev call-of : tie.After-after-serving Inv-loop μ-loop → tie.After-call-place2 Inv-loop μ-loop
-call-of c = c .before .before .before .before .before .before .before .before .before .before .before .before
+abbrev call-of : tie.After-note-entry Inv-loop μ-loop → tie.After-call-place2 Inv-loop μ-loop
+call-of c = c .before .before .before .before .before .before .before .before
 
 add-i-3 : tie.Need-add-i-3 Inv-loop μ-loop
 add-i-3 c = omega (arith, i-fits (entry-of (ran (counted (call-of c) .before))))
@@ -598,20 +664,21 @@ loop-again-3 c =
     let all = counted call in
     let run = ran (all .before) in
     let at = entry-of run in
-    let noted = c .before .before .before .before .note-entry .ensures in
+    let noted = c .note-entry .ensures in
+    let kept = c .before .before .before .before .before in
     rw (stored (call .before))
-    (looping-next (at .before .loop .inv) (at .loop-test .taken) (called all) (done all) (serves (joined run))
-    (ap (λ (l : List Node). set l (all .written .result .0) (run .run-line .result .node)) (nodes-same (joined run))) (call .before .before .plus .ensures)
+    (looping-next (at .before .loop .inv) (at .loop-test .taken) (called all) (kept-is kept) (done all) (serves (joined run))
+    (ap (λ (l : List Node). set l (all .written .result .0) (run .match .effect .node)) (nodes-same (joined run))) (call .before .before .before .plus .ensures)
     (record {
       of-applies = placed (joined run) .before .same-event2 .ensures;
       of-call = call .call-place2 .ensures;
-      of-served = served-is (c .before .before .before .before .before .before .before .before .before);
-      of-assigned = c .before .before .before .before .before .before .before .before .assigned .ensures;
+      of-served = refl;
+      of-assigned = c .before .before .before .before .assigned .ensures;
       of-turns = noted .0;
       of-given = noted .1 .0;
       of-order = noted .1 .1;
-      of-mine = c .before .before .after-entry .ensures;
-      of-theirs = c .after-serving .ensures;
+      of-mine = kept .before .after-entry .ensures;
+      of-theirs = refl;
     }))
 
 returns-2 : tie.Need-returns-2 Inv-loop μ-loop
@@ -627,7 +694,7 @@ from-start-spec =
     spin-line-requires
     unkept-requires
     loop-holds
-    shared-slice-read-t70
+    shared-slice-read-t68
     cast-t
     mul-seen
     element-copy-out-seen
@@ -665,7 +732,9 @@ from-start-spec =
     mul-slot
     element-copy-out-slot
     served-by-requires
-    node-behind-requires
+    enum-told
+    executed-requires
+    enum-told-2
     cast-b
     zero-node-requires-2
     mul-behind
@@ -683,27 +752,28 @@ from-start-spec =
     plus-requires
     mul-thread-after
     element-set-from-thread-after
+    writes-any-requires
     mul-node-after
     element-set-from-node-after
     call-place-requires-2
-    mul-turn
-    array-read-turn
-    slice-aggregate-given-at
-    given-at-requires
-    served-place-requires
-    assigned-requires
-    note-entry-requires
     mul-mine
     array-copy-out-mine
     cast-after-entry
     after-entry-requires
     mul-kept
     array-set-from-kept
+    mul-turn
+    array-read-turn
+    slice-aggregate-given-at
+    given-at-requires
+    cast-served
     mul-theirs
     array-copy-out-theirs
     after-serving-requires
     mul-kept-2
     array-set-from-kept-2
+    assigned-requires
+    note-entry-requires
     add-i-3
     loop-less-3
     loop-again-3
