@@ -1,5 +1,6 @@
 pub mod Codec
 pub mod Each
+pub mod Entries
 pub mod Examples
 pub mod Judging
 pub mod Methods

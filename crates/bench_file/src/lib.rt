@@ -4,7 +4,8 @@ use object::Kind;
 ghost use mathlib.Core.Path.{_≡_};
 ghost use Prim.Native.Nat.{_+_, _≤_, _<_};
 ghost use lib.ListN.{length, take, drop};
-ghost use Rattle.object.specs.Each.{sumOf};
+ghost use lib.Dec.{ltb};
+ghost use Rattle.object.specs.Each.{every, sumOf};
 ghost use Rattle.bench_file.specs.Reading.{littleEndian, ranged, several};
 ghost use Rattle.bench_file.specs.Layout.{versionKnown, headLength, isMark, startReader, methodReader, limitsReader, headReader, requestReader, rowReader, entryReader, scheduleReader};
 ghost use Rattle.bench_file.specs.Promise.{Judges};
@@ -320,48 +321,39 @@ fn read_rows(s: &[u8], at: usize, object: Kind, n: u8) -> Reached
     Reached::At { next, count: done }
 }
 
-// An entry of the schedule.
-fn read_entry(s: &[u8], at: usize, n: u8) -> Reached
-    ensures { λ r. ⌜ reached (now (s .entry)) r ≡ tallied single (entryReader n (drop at (now (s .entry)))) ⌝ }
-    ensures { λ r. ⌜ Ahead (now (s .entry)) at r ⌝ }
+// Whether every entry names a thread below n. The loop has no early exit, so that many entries are compared at once.
+fn all_below(entries: &[u8], n: u8) -> bool
+    ensures { λ r. ⌜ r ≡ every (λ thread. ltb thread n) (now (entries .entry)) ⌝ }
 {
-    if s.len() <= at {
-        return Reached::Refused(1);
+    let mut fine = true;
+    let mut i = 0usize;
+    while i < entries.len() {
+        fine = fine & (entries[i] < n);
+        i += 1;
     }
-    if n <= s[at] {
-        return Reached::Refused(11);
-    }
-    Reached::At {
-        next: at + 1,
-        count: 1,
-    }
+    fine
 }
 
-// So many entries.
+// So many entries. Those that are there are judged first: one that is not below n comes before the end that cuts off a later one.
 fn read_entries(s: &[u8], at: usize, n: u8, count: usize) -> Reached
     requires { ⌜ at ≤ length (now s) ⌝ }
     ensures { λ r. ⌜ reached (now (s .entry)) r ≡ tallied (sumOf single) (several count (entryReader n) (drop at (now (s .entry)))) ⌝ }
     ensures { λ r. ⌜ Ahead (now (s .entry)) at r ⌝ }
 {
-    let mut next = at;
-    let mut done = 0usize;
-    let mut i = 0usize;
-    while i < count {
-        match read_entry(s, next, n) {
-            Reached::At {
-                next: after,
-                count: more,
-            } => {
-                next = after;
-                done += more;
-            }
-            Reached::Refused(refusal) => {
-                return Reached::Refused(refusal);
-            }
-        }
-        i += 1;
+    let mut there = s.len() - at;
+    if count < there {
+        there = count;
     }
-    Reached::At { next, count: done }
+    if all_below(&s[at..at + there], n) {
+        if there < count {
+            return Reached::Refused(1);
+        }
+        return Reached::At {
+            next: at + count,
+            count,
+        };
+    }
+    Reached::Refused(11)
 }
 
 // The schedule's length and its entries.

@@ -1,70 +1,67 @@
--- `bench_file::read_entries` meets its contract: a loop that reads so many entries, one a pass. Assumes nothing.
-use Prim.Native.Nat.{_-_}
+-- `bench_file::read_entries` meets its contract: each return is one law of the entries at a place. Assumes nothing.
+use Prim.Native.Nat.{_-_, min}
+use native.Mathlib.Nat.{add-sub-cancel-left}
 use native.Mathlib.Omega.{arith}
+use mathlib.Core.Path.{_≡_}
+use mathlib.Core.Logic.{⊎-elim}
+use lib.ListN.{length}
 use borrow.Author.Needs.{needs}
-use Rattle.bench_file.specs.Layout.{entryReader}
-use Rattle.bench_file.specs.Cursor.{single}
-use Rattle.bench_file.proofs.Passes.{Passing, begins, passes, refuses, ends}
+use Rattle.bench_file.proofs.Entries.{Tested, entries-read, entries-cut, entries-out}
 use Rattle.bench_file.proofs.read_entries.Statement.{statement}
 use Rattle.bench_file.proofs.read_entries.Tie as tie
 
-abbrev Inv-loop : tie.InvT-loop
-Inv-loop s at n count next₀ done₀ i₀ next done i = Passing (entryReader n) single s at count next done i
+-- the entries that are there are all that are left, or as many as are asked for
+there-is : (c : tie.Joined1) → let a = c .before .before .args in c .if1 .there ≡ min (length (a .s .now) - a .at) (a .count)
+there-is c = ⊎-elim (λ w. omega arith) (λ w. omega arith) (c .if1 .came)
 
-abbrev μ-loop : tie.MeasureT-loop
-μ-loop s at n count next₀ done₀ i₀ next done i = count - i
+-- and just these are tested
+tested : (c : tie.After-all-below) → let d = c .before .before .before in let a = d .before .before .args in
+    Tested (a .n) (a .s .now) (a .at) (a .count) (d .if1 .there) (c .all-below .result)
+tested c = record { least = there-is (c .before .before .before); found = rw add-sub-cancel-left at (c .all-below .ensures) }
 
-loop-holds : tie.Need-loop-holds Inv-loop μ-loop
-loop-holds c = begins _ _ _ _ _ (c .before .pre)
+sub-there : tie.Need-sub-there
+sub-there c = search needs
 
-read-entry-requires : tie.Need-read-entry-requires Inv-loop μ-loop
-read-entry-requires c κs = search needs
+add-all-below : tie.Need-add-all-below
+add-all-below c = omega (arith, there-is (c .before))
 
-enum-known-after : tie.Need-enum-known-after Inv-loop μ-loop
-enum-known-after c = search needs
+sub-all-below : tie.Need-sub-all-below
+sub-all-below c = search needs
 
-enum-known-refusal : tie.Need-enum-known-refusal Inv-loop μ-loop
-enum-known-refusal c = search needs
+part-all-below-start : tie.Need-part-all-below-start
+part-all-below-start c = search needs
 
-returns : tie.Need-returns Inv-loop μ-loop
-returns c =
-    let d = c .before .before .before in
-    (refuses _ _ _ _ _ (d .before .before .loop .inv) (d .read-entry .ensures .0) (d .before .loop-test .taken) (c .before .refusal .given .1), tt)
+part-all-below-end : tie.Need-part-all-below-end
+part-all-below-end c = omega (arith, there-is (c .before))
 
-loop-less : tie.Need-loop-less Inv-loop μ-loop
-loop-less c = search needs
+all-below-requires : tie.Need-all-below-requires
+all-below-requires c κs = search needs
 
-loop-again : tie.Need-loop-again Inv-loop μ-loop
-loop-again c =
-    let d = c .before .before .before in
-    passes _ _ _ _ _ (d .before .before .loop .inv) (d .read-entry .ensures .0) (d .before .loop-test .taken) (d .read-entry .ensures .1) (c .before .after .given .1)
+returns : tie.Need-returns
+returns c = (entries-cut (tested (c .before .before)) (c .if3 .taken) (c .before .if2 .taken), tt)
 
-add-done : tie.Need-add-done Inv-loop μ-loop
-add-done c =
-    let start = c .before .before .before .before .before .before .before in
-    omega (arith, loop-again c .ahead, start .good)
+add-t14 : tie.Need-add-t14
+add-t14 c = omega (arith, tested (c .before .before) .least)
 
-add-i : tie.Need-add-i Inv-loop μ-loop
-add-i c =
-    let start = c .before .before .before .before .before .before .before in
-    omega (arith, loop-again c .counted, start .fits .count)
+returns-2 : tie.Need-returns-2
+returns-2 c =
+    let d = tested (c .before .before) in
+    (entries-read d (c .if3 .left) (c .before .if2 .taken), omega (arith, d .least))
 
-returns-2 : tie.Need-returns-2 Inv-loop μ-loop
-returns-2 c = (ends _ _ _ _ _ (c .before .loop .inv) (c .loop-test .left), c .before .loop .inv .ahead)
+returns-3 : tie.Need-returns-3
+returns-3 c = (entries-out (tested (c .before)) (c .if2 .left), tt)
 
 pub read-entries-spec : {M : Type 1} → statement M
 read-entries-spec =
     tie.close
     (tie.spec
-    Inv-loop
-    μ-loop
-    loop-holds
-    read-entry-requires
-    enum-known-after
-    add-done
-    enum-known-refusal
+    sub-there
+    add-all-below
+    sub-all-below
+    part-all-below-start
+    part-all-below-end
+    all-below-requires
     returns
-    add-i
-    loop-less
-    loop-again
-    returns-2)
+    add-t14
+    returns-2
+    returns-3)
