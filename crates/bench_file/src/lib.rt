@@ -321,14 +321,14 @@ fn read_rows(s: &[u8], at: usize, object: Kind, n: u8) -> Reached
     Reached::At { next, count: done }
 }
 
-// Whether every entry names a thread below n. The loop has no early exit, so that many entries are compared at once.
-fn all_below(entries: &[u8], n: u8) -> bool
-    ensures { λ r. ⌜ r ≡ every (λ thread. ltb thread n) (now (entries .entry)) ⌝ }
+// Whether every byte of a row, of entries or of counts, is below a bound. The loop has no early exit, so that many bytes are compared at once.
+pub fn every_below(row: &[u8], bound: u8) -> bool
+    ensures { λ r. ⌜ r ≡ every (λ x. ltb x bound) (now (row .entry)) ⌝ }
 {
     let mut fine = true;
     let mut i = 0usize;
-    while i < entries.len() {
-        fine = fine & (entries[i] < n);
+    while i < row.len() {
+        fine = fine & (row[i] < bound);
         i += 1;
     }
     fine
@@ -344,7 +344,7 @@ fn read_entries(s: &[u8], at: usize, n: u8, count: usize) -> Reached
     if count < there {
         there = count;
     }
-    if all_below(&s[at..at + there], n) {
+    if every_below(&s[at..at + there], n) {
         if there < count {
             return Reached::Refused(1);
         }

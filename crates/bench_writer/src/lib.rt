@@ -5,8 +5,6 @@ ghost use mathlib.Core.Path.{_≡_};
 ghost use Prim.Native.Nat.{ℕ, _+_, _*_, _≤_};
 ghost use mathlib.Core.List.{List, _∷_};
 ghost use lib.ListN.{length};
-ghost use lib.Dec.{ltb};
-ghost use Rattle.object.specs.Each.{every};
 ghost use Rattle.bench_file.specs.Layout.{headLength};
 ghost use Rattle.bench_file.specs.Bytes.{lowFirst, headFrom};
 ghost use Rattle.bench_file.specs.Reading.{rules};
@@ -54,20 +52,6 @@ fn judge_numbers(version: u16, object: u8, n: u8, h: u8, capacity: u8, method: u
     0
 }
 
-// Whether each byte of a row is below a bound.
-fn every_below(row: &[u8], bound: u8) -> bool
-    ensures { λ r. ⌜ r ≡ every (λ x. ltb x bound) (now (row .entry)) ⌝ }
-{
-    let mut i = 0usize;
-    while i < row.len() {
-        if bound <= row[i] {
-            return false;
-        }
-        i += 1;
-    }
-    true
-}
-
 // The sum of a row of at most 16 counts.
 fn total_of(counts: &[u8]) -> usize
     requires { ⌜ length (now counts) ≤ 16 ⌝ }
@@ -93,7 +77,7 @@ fn judge_counts(n: u8, counts: &[u8]) -> u8
     if threads < counts.len() {
         return 12;
     }
-    if every_below(counts, 17) {
+    if bench_file::every_below(counts, 17) {
         return 0;
     }
     8
@@ -123,7 +107,7 @@ fn judge_entries(n: u8, schedule: &[u8]) -> u8
     if 32768 < schedule.len() {
         return 10;
     }
-    if every_below(schedule, n) {
+    if bench_file::every_below(schedule, n) {
         return 0;
     }
     11

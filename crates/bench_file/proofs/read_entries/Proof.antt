@@ -15,27 +15,27 @@ there-is : (c : tie.Joined1) → let a = c .before .before .args in c .if1 .ther
 there-is c = ⊎-elim (λ w. omega arith) (λ w. omega arith) (c .if1 .came)
 
 -- and just these are tested
-tested : (c : tie.After-all-below) → let d = c .before .before .before in let a = d .before .before .args in
-    Tested (a .n) (a .s .now) (a .at) (a .count) (d .if1 .there) (c .all-below .result)
-tested c = record { least = there-is (c .before .before .before); found = rw add-sub-cancel-left at (c .all-below .ensures) }
+tested : (c : tie.After-every-below) → let d = c .before .before .before in let a = d .before .before .args in
+    Tested (a .n) (a .s .now) (a .at) (a .count) (d .if1 .there) (c .every-below .result)
+tested c = record { least = there-is (c .before .before .before); found = rw add-sub-cancel-left at (c .every-below .ensures) }
 
 sub-there : tie.Need-sub-there
 sub-there c = search needs
 
-add-all-below : tie.Need-add-all-below
-add-all-below c = omega (arith, there-is (c .before))
+add-every-below : tie.Need-add-every-below
+add-every-below c = omega (arith, there-is (c .before))
 
-sub-all-below : tie.Need-sub-all-below
-sub-all-below c = search needs
+sub-every-below : tie.Need-sub-every-below
+sub-every-below c = search needs
 
-part-all-below-start : tie.Need-part-all-below-start
-part-all-below-start c = search needs
+part-every-below-start : tie.Need-part-every-below-start
+part-every-below-start c = search needs
 
-part-all-below-end : tie.Need-part-all-below-end
-part-all-below-end c = omega (arith, there-is (c .before))
+part-every-below-end : tie.Need-part-every-below-end
+part-every-below-end c = omega (arith, there-is (c .before))
 
-all-below-requires : tie.Need-all-below-requires
-all-below-requires c κs = search needs
+every-below-requires : tie.Need-every-below-requires
+every-below-requires c κs = search needs
 
 returns : tie.Need-returns
 returns c = (entries-cut (tested (c .before .before)) (c .if3 .taken) (c .before .if2 .taken), tt)
@@ -56,11 +56,11 @@ read-entries-spec =
     tie.close
     (tie.spec
     sub-there
-    add-all-below
-    sub-all-below
-    part-all-below-start
-    part-all-below-end
-    all-below-requires
+    add-every-below
+    sub-every-below
+    part-every-below-start
+    part-every-below-end
+    every-below-requires
     returns
     add-t14
     returns-2
