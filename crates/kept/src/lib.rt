@@ -98,14 +98,12 @@ pub fn given_at(given: &[u16], node: NodeId) -> u16
     0
 }
 
-// Notes a number at a place, or not; past the end nothing is noted, as `set` has it.
-fn note(numbers: &mut [u16], at: usize, notes: bool, number: usize)
-    ensures { λ r. ⌜ now (numbers .exit) ≡ cond notes (set (now (numbers .entry)) at (number % 65536)) (now (numbers .entry)) ⌝ }
+// Notes a number at a place; past the end nothing is noted, as `set` has it.
+fn note(numbers: &mut [u16], at: usize, number: usize)
+    ensures { λ r. ⌜ now (numbers .exit) ≡ set (now (numbers .entry)) at (number % 65536) ⌝ }
 {
-    if notes {
-        if at < numbers.len() {
-            numbers[at] = (number % 65536) as u16;
-        }
+    if at < numbers.len() {
+        numbers[at] = (number % 65536) as u16;
     }
 }
 
@@ -125,9 +123,11 @@ pub fn note_entry(
     ensures { λ r. ⌜ now (given .exit) ≡ cond (sameEvent event Event.Swaps) (set (now (given .entry)) (node .0) (place % 65536)) (now (given .entry)) ⌝ }
     ensures { λ r. ⌜ now (order .exit) ≡ cond (sameEvent event Event.Swaps) (set (now (order .entry)) (counts .records) (place % 65536)) (now (order .entry)) ⌝ }
 {
-    let begins = machine::same_event(event, Event::TurnBegins);
-    let swaps = machine::same_event(event, Event::Swaps);
-    note(turns, thread.0 as usize, begins, counts.turns as usize);
-    note(given, node.0 as usize, swaps, place);
-    note(order, counts.records as usize, swaps, place);
+    if machine::same_event(event, Event::TurnBegins) {
+        note(turns, thread.0 as usize, counts.turns as usize);
+    }
+    if machine::same_event(event, Event::Swaps) {
+        note(given, node.0 as usize, place);
+        note(order, counts.records as usize, place);
+    }
 }

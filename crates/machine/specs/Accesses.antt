@@ -1,5 +1,6 @@
 -- The shared accesses of a line, the only source of remote references, and the locations that they go to.
 -- An access is of one field; caches fetch nodes, so its location is the whole node: document 02, No. 5.
+use Prim.Native.Nat.{ℕ}
 use mathlib.Core.Bool.{Bool, true, false, cond, not, _&&_, _||_}
 use mathlib.Core.List.{List, [], _∷_, _++_}
 use lib.Dec.{eqb}
@@ -14,6 +15,14 @@ use Rattle.machine.specs.declared.PrintedLine.{PrintedLine}
 use Rattle.machine.specs.declared.PrintedLine.the-variants.{Local, One, Two, Three}
 use Rattle.machine.specs.declared.Row.{Row}
 use Rattle.machine.specs.Fields.{isNull}
+
+-- the number of a pointer
+abbrev pub pointerNumber : Pointer → ℕ
+pointerNumber Own = 0
+pointerNumber Cur = 1
+pointerNumber Tmp = 2
+pointerNumber My = 3
+pointerNumber Pred = 4
 
 -- the node that a pointer gives: of CC-Synch the thread's own node, curNode or tmpNode, of DSM-Synch myNode, myPredNode or tmpNode
 abbrev pub pointedOf : Pointer → NodeId → NodeId → NodeId → NodeId → NodeId → NodeId

@@ -2,7 +2,7 @@
 ghost use mathlib.Core.Path.{_≡_};
 ghost use mathlib.Core.Bool.{cond};
 ghost use Rattle.machine.specs.Fields.{isNull, isEmptyReq, isEmptyRet};
-ghost use Rattle.machine.specs.Accesses.{pointedOf, rowFrom, isNone, writesBehind, writes, writesAny, writtenOf};
+ghost use Rattle.machine.specs.Accesses.{pointerNumber, pointedOf, rowFrom, isNone, writesBehind, writes, writesAny, writtenOf};
 ghost use Rattle.machine.specs.Events.{eventNumber, sameEvent, stays, isCas, eventFound};
 ghost use Rattle.machine.specs.Lines.{lineRun};
 ghost use Rattle.machine.specs.Methods.{methodNumber, methodOf, lastLine};
@@ -231,7 +231,26 @@ pub fn line_run(thread: Thread) -> u8
     thread.line
 }
 
-// The node that a line points to, of those that its thread's variables give.
+fn pointer_number(pointer: Pointer) -> u8
+    ensures { λ r. ⌜ r ≡ pointerNumber pointer ⌝ }
+{
+    match pointer {
+        Pointer::Own => 0,
+        Pointer::Cur => 1,
+        Pointer::Tmp => 2,
+        Pointer::My => 3,
+        Pointer::Pred => 4,
+    }
+}
+
+fn node_if(test: bool, node: NodeId, other: NodeId) -> NodeId
+    ensures { λ r. ⌜ r ≡ cond test node other ⌝ }
+{
+    if test { node } else { other }
+}
+
+// The node that a line points to, of those that its thread's variables give. It is chosen by tests and not by a jump, which a processor guesses wrong where
+// threads take turns at random.
 pub fn pointed(
     pointer: Pointer,
     own: NodeId,
@@ -242,13 +261,11 @@ pub fn pointed(
 ) -> NodeId
     ensures { λ r. ⌜ r ≡ pointedOf pointer own cur tmp my pred ⌝ }
 {
-    match pointer {
-        Pointer::Own => own,
-        Pointer::Cur => cur,
-        Pointer::Tmp => tmp,
-        Pointer::My => my,
-        Pointer::Pred => pred,
-    }
+    let k = pointer_number(pointer);
+    let my_or_pred = node_if(k == 3, my, pred);
+    let from_tmp = node_if(k == 2, tmp, my_or_pred);
+    let from_cur = node_if(k == 1, cur, from_tmp);
+    node_if(k == 0, own, from_cur)
 }
 
 // The row of a printed line.

@@ -1,5 +1,5 @@
 -- `kept::note` meets its contract. Assumes nothing.
-use mathlib.Core.Path.{sym}
+use mathlib.Core.Path.{refl, sym}
 use lib.Seq.{set-out}
 use borrow.Author.Needs.{needs}
 use Rattle.kept.proofs.note.Statement.{statement}
@@ -18,15 +18,10 @@ same-length : tie.Need-same-length
 same-length c = search needs
 
 returns : tie.Need-returns
-returns c = simp (c .before .if1 .taken)
+returns c = refl
 
 returns-2 : tie.Need-returns-2
-returns-2 c = simp (c .before .if1 .taken) (sym (set-out _ _ _ (c .if2 .left)))
-
-returns-3 : tie.Need-returns-3
-returns-3 c = search needs
+returns-2 c = sym (set-out _ _ _ (c .if1 .left))
 
 pub note-spec : {M : Type 1} → statement M
-note-spec =
-    tie.close
-    (tie.spec cast-numbers mul-numbers slice-write-numbers same-length returns returns-2 returns-3)
+note-spec = tie.close (tie.spec cast-numbers mul-numbers slice-write-numbers same-length returns returns-2)
