@@ -3,7 +3,7 @@
 use Prim.Native.Nat.{ℕ, _*_, _≤_, _<_}
 use native.Mathlib.Omega.{arith}
 use mathlib.Core.Path.{_≡_, refl, sym, ap, _∙_}
-use mathlib.Core.Bool.{Bool, true, false}
+use mathlib.Core.Bool.{Bool, false}
 use mathlib.Core.List.{List, [], _∷_}
 use lib.ListN.{length}
 use lib.Dec.{eqb}
@@ -39,7 +39,6 @@ use Rattle.step.proofs.Outcome.{thread-fits, runs-line, target-in-range}
 use Rattle.step.proofs.Soundness.{Sound}
 use Rattle.invariant.specs.View.{viewOf}
 use Rattle.invariant.proofs.Bridge as ccBridge
-use Rattle.dsm_invariant.proofs.Bridge as dsmBridge
 use Rattle.dsm_invariant.proofs.Threads as dsmThreads
 use Rattle.history.specs.Entries.{Entry, is, Is, howMany, remoteIn}
 use Rattle.history.specs.Copies.{remoteMarks}
@@ -47,7 +46,7 @@ use Rattle.history.specs.Terms.{Serving, servings}
 use Rattle.history.specs.Method.{Seen, Positions, Moves}
 use Rattle.history.specs.History.{SwapOrder}
 use Rattle.claims.specs.Entries.{assignedBy, entryBy, startBy}
-use Rattle.claims.specs.Claims.{askedOf, ClaimedBy}
+use Rattle.claims.specs.Claims.{ClaimedBy}
 use Rattle.claims.proofs.Chronicle.{Chronicle}
 use Rattle.claims.proofs.Chronicled.{Chronicled}
 use Rattle.claims.proofs.Counted.{remote-ones}
@@ -56,7 +55,6 @@ use Rattle.claims.proofs.Meets as ccMeets
 use Rattle.claims.proofs.Parts.{claim}
 use Rattle.claims.proofs.Room.{requests-few, swaps-few}
 use Rattle.claims.proofs.Run.{Going, going-start, going-next}
-use Rattle.claims.proofs.Seen.{seenBy}
 use Rattle.claims.proofs.Start.{row-few}
 use Rattle.claims.proofs.Telling.{Tells, entry-tells, tells-of, dsm-entry-tells, dsm-tells-of}
 use Rattle.claims.proofs.Theorem as ccTheorem
@@ -157,22 +155,22 @@ module _ (f : Fields) (fits : InRange f) (s : State) (past : List Entry) (t : Th
   null-alone CcSynch now = ccLayers.stays f fits s past t below (now .going) (now .layers)
   null-alone DsmSynch now = dsmLayers.null-alone f fits s past t below (now .going) (now .layers) .alone
 
-  -- what a line of CC-Synch does, in 8 bits, is what it does: none is refused, and no number wraps
-  abbrev pub Done : Method → Type 0
-  Done CcSynch = (request : Request) (answer : Answer)
+  -- a line of CC-Synch needs no test: what it does, in 8 bits, is what `run_line` answers, since none is refused and no number wraps
+  abbrev pub Untested : Method → Type 0
+  Untested CcSynch = (request : Request) (answer : Answer)
       → ccEffect.wrapped (ccEffect.executed (named s t) (nodeBy CcSynch s t) (s .tail) (s .h) request answer (ccLines.lineOf (line s t)))
       ≡ ccEffect.effectOf (named s t) (nodeBy CcSynch s t) (s .tail) (s .h) request answer
-  Done DsmSynch = Unit
+  Untested DsmSynch = Unit
 
-  pub done : (m : Method) → Standing m f s past → Done m
-  done CcSynch now = λ request answer.
+  pub untested : (m : Method) → Standing m f s past → Untested m
+  untested CcSynch now = λ request answer.
       let stays = null-alone CcSynch now in
       let sound = now .layers .sound in
       let th = thread-fits CcSynch s t (sound .shape) (sound .range) below in
       let limit : s .h < 256 = omega (arith, now .going .h, fits .head .h) in
       ccRefusal.unwrapped (named s t) (nodeBy CcSynch s t) (s .tail) (s .h) request answer (line s t) stays (omega (arith, th .few)) (omega (arith, th .few, th .counted)) limit (omega (arith, th .served))
       ∙ sym (ccRefusal.goes-ahead (named s t) (nodeBy CcSynch s t) (s .tail) (s .h) request answer stays)
-  done DsmSynch now = tt
+  untested DsmSynch now = tt
 
   -- every entry keeps it that meets no null
   layers-next : (m : Method) → Standing m f s past → length past < 32768 → nullMetBy m s t ≡ false → Layered m f (enteredBy m s t) (entryBy m s t ∷ past)

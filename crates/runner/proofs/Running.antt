@@ -7,7 +7,7 @@ use mathlib.Core.Path.{_≡_, refl, sym, ap, subst, _∙_}
 use mathlib.Core.Bool.{Bool, true, false, cond}
 use mathlib.Core.List.{List, [], _∷_, map, reverseAux}
 use lib.ListN.{length, getD, set, drop, replicate, drop-of-length-le, List·getD-eq-default}
-use lib.Seq.{drop-cons, set-out, set-getD}
+use lib.Seq.{drop-cons, set-getD}
 use Rattle.object.specs.Each.{Each}
 use Rattle.bench_file.specs.Layout.{Fields}
 use Rattle.bench_file.specs.Bytes.{InRange}
@@ -42,19 +42,18 @@ use Rattle.state.specs.declared.State.{State}
 use Rattle.state.specs.Range.{inRangeBy, countsInRange}
 use Rattle.state.specs.Shape.{Shaped}
 use Rattle.step.specs.Entry.{zeroNode, servedBy, appliedAt, plus, wrapped, named, line}
-use Rattle.step.specs.ByMethod.{pointsToBy, nodeBy, eventBy, appliedBy, effectBy, enteredBy, outBy, nullMetBy}
+use Rattle.step.specs.ByMethod.{nodeBy, eventBy, appliedBy, effectBy, enteredBy, outBy, nullMetBy}
 use Rattle.step.proofs.Entering.{Called, made, at-points, is-node, is-event, is-applied, unwritten, remote-is, sums, line-out, line-through, entered-by, fits-wrapped}
-use Rattle.step.proofs.Soundness.{Sound}
 use Rattle.history.specs.Entries.{Entry, threadId, is, Is, howMany, remoteIn}
 use Rattle.history.specs.Terms.{noCall, noTurn}
 use Rattle.history.proofs.Told.{is-so}
-use Rattle.claims.specs.Entries.{assignedBy, entryBy, startBy, startOf, entriesFrom, meetsNoNull, historyBy}
+use Rattle.claims.specs.Entries.{assignedBy, entryBy, startBy, entriesFrom, meetsNoNull, historyBy}
 use Rattle.claims.proofs.Counted.{next-fits}
 use Rattle.kept.specs.declared.Kept.{Kept}
 use Rattle.runner.specs.declared.Played.{Played}
 use Rattle.kept.specs.Kept.{placeOf, callAt, keptOf, unkept, afterEntry, afterServing}
 use Rattle.runner.specs.Played.{Startable, unplayed, playedFrom}
-use Rattle.runner.proofs.Invariant.{Standing, standing-start, swaps-most, Next, sound, line-most, waited-below, begun-now, null-alone, Done, done, standing-next, next-of, remote-of}
+use Rattle.runner.proofs.Invariant.{Standing, standing-start, swaps-most, Next, sound, line-most, waited-below, begun-now, null-alone, Untested, untested, standing-next, next-of, remote-of}
 use Rattle.runner.proofs.Tabled.{is-tabled}
 use Rattle.runner.proofs.Tables.{Tables, tables-start, place, served, enteredCalls, servedCalls, orderAfter, givenAfter, turnsAfter, place-below, served-below, tables-next}
 
@@ -147,9 +146,9 @@ module _ (m : Method) (f : Fields) (bytes : List ℕ) (fits : InRange f) where
     pub only-null : outBy m s t ≡ nullMetBy m s t
     only-null = null-alone f fits s (x .past) t below m (x .standing)
 
-    -- and what it does in CC-Synch is what Algorithm 1 does
-    pub line-done : Done f fits s (x .past) t below m
-    line-done = done f fits s (x .past) t below m (x .standing)
+    -- and in CC-Synch it needs no test
+    pub line-untested : Untested f fits s (x .past) t below m
+    line-untested = untested f fits s (x .past) t below m (x .standing)
 
     pub null-met : nullMetBy m s t ≡ true → meetsNoNull m (startBy m f) (f .schedule) ≡ false
     unfolding meetsNoNull
@@ -207,8 +206,8 @@ module _ (m : Method) (f : Fields) (bytes : List ℕ) (fits : InRange f) where
       pub cc-answers : {k : ℕ} → m ≡ CcSynch → k ≡ line s t → xn ≡ nodeBy m s t
           → e ≡ ccEffect.wrapped (ccEffect.executed (named s t) xn (s .tail) h′ request answer (ccLines.lineOf k)) → Answers xn request answer′ e m
       cc-answers by runs at e′ =
-          subst (λ (m′ : Method). xn ≡ nodeBy m′ s t → Done f fits s (x .past) t below m′ → Answers xn request answer′ e m′) (sym by)
-          (λ at done. e′ ∙ rw (runs, limit, same, at) (done request answer′)) at line-done
+          subst (λ (m′ : Method). xn ≡ nodeBy m′ s t → Untested f fits s (x .past) t below m′ → Answers xn request answer′ e m′) (sym by)
+          (λ at whole. e′ ∙ rw (runs, limit, same, at) (whole request answer′)) at line-untested
 
       pub dsm-answers : {yn : Node} → m ≡ DsmSynch → yn ≡ getD (s .nodes) (xn .next .0) zeroNode
           → e ≡ dsmEffect.effectOf (t .0) (named s t) xn yn (s .tail) h′ request answer → Answers xn request answer′ e m

@@ -8,7 +8,6 @@ use mathlib.Core.List.{List}
 use lib.ListN.{length, getD, set, replicate}
 use lib.Seq.{set-out}
 use borrow.Author.Needs.{needs}
-use Rattle.object.specs.declared.Answer.{Answer}
 use Rattle.object.specs.declared.Applied.{Applied}
 use Rattle.object.specs.declared.Kind.{Kind}
 use Rattle.machine.specs.declared.Effect.{Effect}
@@ -19,7 +18,7 @@ use Rattle.machine.specs.declared.Node.{Node}
 use Rattle.machine.specs.declared.Row.{Row}
 use Rattle.machine.specs.declared.ThreadId.{ThreadId}
 use Rattle.machine.specs.declared.Event.the-variants.{Blank}
-use Rattle.machine.specs.Accesses.{accessesOf, writtenOf, writesAny}
+use Rattle.machine.specs.Accesses.{accessesOf, writtenOf}
 use Rattle.machine.specs.Events.{sameEvent}
 use Rattle.machine.specs.Sizes.{mostCalls, mostNodes}
 use Rattle.methods.specs.Methods.{rowBy, spinLine}
