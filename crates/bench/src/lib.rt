@@ -1,4 +1,6 @@
 // Runs a bench file: its counts and the records of its calls, in Swap order, in a lent buffer.
+#![tactic(auto)]
+
 ghost use Rattle.std.specs.Prelude.{ℕ, ◌*◌, ◌≤◌, ◌<◌, ◌≡◌, length, get_or, eqb, not};
 ghost use Rattle.machine.specs.Sizes.{most_calls};
 ghost use Rattle.bench_file.specs.Bytes.{low_first};
@@ -13,7 +15,7 @@ use kept::Kept;
 use state::Counts;
 
 // Refusal 0 with the five counts, or a refusal's number with all counts 0.
-#[derive(Drop)]
+#[derive(Clone, Copy)]
 pub struct RunAnswer {
     pub refusal: u8,
     pub counts: Counts,

@@ -1,4 +1,6 @@
 // Bench files of version 1 and 2, judged front to back.
+#![tactic(auto)]
+
 ghost use Rattle.std.specs.Prelude.{◌≡◌, ◌+◌, ◌≤◌, ◌<◌, length, take, drop, ltb};
 ghost use Rattle.object.specs.Each.{every, sum_of};
 ghost use Rattle.bench_file.specs.Reading.{little_endian, ranged, several};
@@ -10,7 +12,7 @@ use machine::Method;
 use object::Kind;
 
 // What a bench file says before its rows of requests.
-#[derive(Drop)]
+#[derive(Clone, Copy)]
 pub struct Head {
     pub version: u16,
     pub object: Kind,
@@ -21,42 +23,42 @@ pub struct Head {
 }
 
 // A field of one byte, or the refusal.
-#[derive(Drop)]
+#[derive(Clone, Copy)]
 enum ByteRead {
     Byte(u8),
     Refused(u8),
 }
 
 // Mark and version, or the refusal.
-#[derive(Drop)]
+#[derive(Clone, Copy)]
 enum StartRead {
     Version(u16),
     Refused(u8),
 }
 
 // The method, or the refusal.
-#[derive(Drop)]
+#[derive(Clone, Copy)]
 enum MethodRead {
     Known(Method),
     Refused(u8),
 }
 
 // The head, or the refusal.
-#[derive(Drop)]
+#[derive(Clone, Copy)]
 enum HeadRead {
     Whole(Head),
     Refused(u8),
 }
 
 // The place behind what was read, and how many requests or entries it held; or the refusal.
-#[derive(Drop)]
+#[derive(Clone, Copy)]
 pub enum Reached {
     At { next: usize, count: usize },
     Refused(u8),
 }
 
 // What a bench file is judged to be: its head, how many requests in all, how many schedule entries; or the refusal.
-#[derive(Drop)]
+#[derive(Clone, Copy)]
 pub enum Judged {
     Accepted {
         head: Head,

@@ -1,4 +1,6 @@
 // Writes a bench file of version 1 or 2: from its fields, or from a file of either version.
+#![tactic(auto)]
+
 ghost use Rattle.std.specs.Prelude.{◌≡◌, ℕ, ◌+◌, ◌*◌, ◌≤◌, List, ◌∷◌, length, drop};
 ghost use Rattle.bench_file.specs.Layout.{head_length};
 ghost use Rattle.bench_file.specs.Bytes.{low_first, head_from};
@@ -12,7 +14,7 @@ use bench_file::{Head, Judged, Reached};
 use object::Kind;
 
 // The refusal, 0 for none, and how many bytes were written.
-#[derive(Drop)]
+#[derive(Clone, Copy)]
 pub struct Written {
     pub refusal: u8,
     pub length: usize,

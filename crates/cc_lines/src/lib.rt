@@ -1,4 +1,6 @@
 // The 21 printed lines of CC-Synch, Algorithm 1 of source 004: the table of their accesses and the line that follows each.
+#![tactic(auto)]
+
 ghost use Rattle.std.specs.Prelude.{◌+◌, ◌<◌, ◌≡◌};
 ghost use Rattle.cc_lines.specs.Lines.{line_of, printed_line, row_of, following};
 

@@ -1,4 +1,6 @@
 // What one printed line of CC-Synch does to its thread, to the node that it points to and to Tail: Algorithm 1 of source 004.
+#![tactic(auto)]
+
 ghost use Rattle.std.specs.Prelude.{◌≡◌};
 ghost use Rattle.cc_lines.specs.Lines.{line_of};
 ghost use Rattle.cc_synch.specs.Effect.{uses_empty, takes_out, wrapped, line_does, executed, effect_of};

@@ -1,4 +1,6 @@
 // The services for programs in other languages: judge, run, write, convert, list and page, on numbers and byte slices.
+#![tactic(auto)]
+
 ghost use Rattle.std.specs.Prelude.{◌≡◌};
 ghost use Rattle.bench_file.specs.Promise.{judged_refusal};
 ghost use Rattle.bench_writer.specs.Writer.{given_by, WritesAs};

@@ -1,4 +1,6 @@
 // Lists the bench file on standard input.
+#![tactic(auto)]
+
 ghost use Rattle.std.specs.Prelude.{ℕ, ◌≤◌, ◌≡◌, List, length, take};
 ghost use Rattle.bench_file.specs.Layout.{judge_of};
 ghost use Rattle.listing.specs.Listing.{listing_of};

@@ -1,4 +1,6 @@
 // Prints the pages of the bench file on standard input.
+#![tactic(auto)]
+
 ghost use Rattle.std.specs.Prelude.{ℕ, ◌≤◌, ◌≡◌, List, length, take};
 ghost use Rattle.bench_file.specs.Layout.{judge_of};
 ghost use Rattle.page.specs.Promise.{enough_for_pages};

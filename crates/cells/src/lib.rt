@@ -1,4 +1,6 @@
 // The text of a result: the cells of a record, each decided here once and set in a line or in columns, and text in a lent buffer.
+#![tactic(auto)]
+
 ghost use Rattle.std.specs.Prelude.{◌≡◌, ◌+◌, ◌-◌, ◌≤◌, ◌<◌, length, eqb};
 ghost use Rattle.history.specs.Terms.{record_length, number_at};
 ghost use Rattle.cells.specs.Text.{digit, decimal, spaces};
@@ -11,14 +13,14 @@ use machine::RetVal;
 use object::Answer;
 
 // Text given in a lent buffer: refusal 0 and its length, or a refusal with the buffer as it was.
-#[derive(Drop)]
+#[derive(Clone, Copy)]
 pub struct Printed {
     pub refusal: u8,
     pub length: usize,
 }
 
 // The words of a result.
-#[derive(Drop)]
+#[derive(Clone, Copy)]
 pub enum Word {
     Queue,
     Stack,
@@ -36,7 +38,7 @@ pub enum Word {
 }
 
 // What stands in one place of a line or of a row.
-#[derive(Drop)]
+#[derive(Clone, Copy)]
 pub enum Cell {
     Number(u32),
     Says(Word),

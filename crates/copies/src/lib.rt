@@ -1,4 +1,6 @@
 // Valid copies of locations, and the remote references of a line's accesses, by either method.
+#![tactic(auto)]
+
 ghost use Rattle.std.specs.Prelude.{◌≡◌, cond, ◌≤◌, get_or, set};
 ghost use Rattle.machine.specs.Accesses.{whole, access_to, accesses_of};
 ghost use Rattle.copies.specs.Copies.{has_copy, after_read, after_write};

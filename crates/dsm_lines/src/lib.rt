@@ -1,4 +1,6 @@
 // The 28 printed lines of DSM-Synch, Algorithm 2 of source 004: the table of their accesses and the line that follows each.
+#![tactic(auto)]
+
 ghost use Rattle.std.specs.Prelude.{◌+◌, ◌<◌, ◌≡◌};
 ghost use Rattle.dsm_lines.specs.Lines.{line_of, following};
 ghost use Rattle.dsm_lines.specs.Rows.{printed_line, row_of};

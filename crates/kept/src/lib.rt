@@ -1,4 +1,6 @@
 // What a run keeps of each call while it goes, and what it notes: turns, the call that a node is given to, Swap order.
+#![tactic(auto)]
+
 ghost use Rattle.std.specs.Prelude.{◌≡◌, ◌%◌, true, if◌then◌else◌, slice_index, slice_set};
 ghost use Rattle.machine.specs.Events.{same_event};
 ghost use Rattle.kept.specs.Kept.{unkept, after_entry, after_serving};
@@ -8,7 +10,7 @@ use object::Answer;
 use state::Counts;
 
 // What a run keeps of a call for its record.
-#[derive(Drop)]
+#[derive(Clone, Copy)]
 pub struct Kept {
     pub mark: u8,
     pub server: u8,

@@ -1,4 +1,6 @@
 // The single step of a state that the host keeps and lends for it.
+#![tactic(auto)]
+
 ghost use Rattle.lent.specs.Promise.{StepsLent};
 
 use machine::ThreadId;

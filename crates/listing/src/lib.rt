@@ -1,4 +1,6 @@
 // The listing of a file's run, as text.
+#![tactic(auto)]
+
 ghost use Rattle.std.specs.Prelude.{◌≡◌, cond, [], ◌++◌, ◌*◌, ◌≤◌, ◌<◌, length, eqb};
 ghost use Rattle.machine.specs.Sizes.{most_calls};
 ghost use Rattle.history.specs.Terms.{record_length};

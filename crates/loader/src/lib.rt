@@ -1,4 +1,6 @@
 // Loads a bench file: judges any bytes, and makes the fresh machine of the file.
+#![tactic(auto)]
+
 ghost use Rattle.std.specs.Prelude.{◌≡◌, ◌+◌, ◌*◌, ◌≤◌, ◌<◌, length, drop};
 ghost use Rattle.std.proofs.lemmas.List.Edits.{sets};
 ghost use Rattle.bench_file.specs.Layout.{Fields, accepted, judge_of};
@@ -13,7 +15,7 @@ use object::{Kind, Request};
 use state::{Counts, Slot, State};
 
 // What a file loads as: refusal 0 with how many requests and entries it has and its fresh machine, or its refusal, with all counts 0.
-#[derive(Drop)]
+#[derive(Clone, Copy)]
 pub struct Loaded {
     pub refusal: u8,
     pub requests: usize,

@@ -1,4 +1,6 @@
 // Threads, nodes and Tail, the accesses of a line to them, and what an entry is. What a printed line does is not looked at here.
+#![tactic(auto)]
+
 ghost use Rattle.std.specs.Prelude.{◌≡◌, cond};
 ghost use Rattle.machine.specs.Fields.{is_null, is_empty_req, is_empty_ret};
 ghost use Rattle.machine.specs.Accesses.{pointer_number, pointed_of, row_from, is_none, writes_behind, writes, writes_any, written_of};
@@ -10,15 +12,15 @@ ghost use Rattle.machine.specs.Fields.{with_req, with_ret};
 use object::{Answer, Request};
 
 // A thread's number, 0 to n − 1.
-#[derive(Drop)]
+#[derive(Clone, Copy)]
 pub struct ThreadId(pub u8);
 
 // A node's number, or null: CC-Synch has nodes 0 to n, DSM-Synch 0 to 2n − 1.
-#[derive(Drop)]
+#[derive(Clone, Copy)]
 pub struct NodeId(pub u8);
 
 // What a machine steps: Algorithm 1 or Algorithm 2 of source 004.
-#[derive(Drop)]
+#[derive(Clone, Copy)]
 pub enum Method {
     CcSynch,
     DsmSynch,
@@ -36,20 +38,20 @@ pub const LOCATIONS: usize = 1 + NODES;
 pub const CALLS: usize = 256;
 
 // The field req of a node: empty at first.
-#[derive(Drop)]
+#[derive(Clone, Copy)]
 pub enum Announced {
     NoRequest,
     Asked(Request),
 }
 
 // The field ret of a node: empty at first.
-#[derive(Drop)]
+#[derive(Clone, Copy)]
 pub enum RetVal {
     NoAnswer,
     Answered(Answer),
 }
 
-#[derive(Drop)]
+#[derive(Clone, Copy)]
 pub struct Node {
     pub req: Announced,
     pub ret: RetVal,
@@ -59,7 +61,7 @@ pub struct Node {
 }
 
 // A thread: how many requests it has and has begun, the line that it runs next (0 is idle), and the variables of either method.
-#[derive(Drop)]
+#[derive(Clone, Copy)]
 pub struct Thread {
     pub count: u8,
     pub begun: u8,
@@ -75,7 +77,7 @@ pub struct Thread {
 }
 
 // Which of its variables a line goes through to a node.
-#[derive(Drop)]
+#[derive(Clone, Copy)]
 pub enum Pointer {
     Own,
     Cur,
@@ -84,7 +86,7 @@ pub enum Pointer {
     Pred,
 }
 
-#[derive(Drop)]
+#[derive(Clone, Copy)]
 pub enum Field {
     Req,
     Ret,
@@ -94,7 +96,7 @@ pub enum Field {
 }
 
 // A shared access of a line: of a field of the node that it points to, or of the node behind that, its next; or a Swap or a CAS on Tail.
-#[derive(Drop)]
+#[derive(Clone, Copy)]
 pub enum SharedAccess {
     NoAccess,
     Read(Field),
@@ -106,7 +108,7 @@ pub enum SharedAccess {
 }
 
 // What an entry is: the terms, counts and records of a run go by it, and by no line's number. No entry is two of these.
-#[derive(Drop)]
+#[derive(Clone, Copy)]
 pub enum Event {
     Blank,
     CallBegins,
@@ -121,7 +123,7 @@ pub enum Event {
 
 // A printed line as a method's table has it: the node that it points to, its shared accesses in order, and what an entry of it is. `Spins` is said of a line that
 // may, and `TurnEnds` of one that does so by a CAS if that succeeds.
-#[derive(Drop)]
+#[derive(Clone, Copy)]
 pub enum PrintedLine {
     Local(Pointer, Event),
     One(Pointer, SharedAccess, Event),
@@ -130,7 +132,7 @@ pub enum PrintedLine {
 }
 
 // The same in one form, `NoAccess` where there is none: a line's row. Of three accesses those after the first are made only where the node has a next.
-#[derive(Drop)]
+#[derive(Clone, Copy)]
 pub struct Row {
     pub node: Pointer,
     pub first: SharedAccess,
@@ -140,7 +142,7 @@ pub struct Row {
 }
 
 // What a line does: refusal 0 with the thread, the node that it writes, if it writes one, and Tail after it, or 14 with all as it was.
-#[derive(Drop)]
+#[derive(Clone, Copy)]
 pub struct Effect {
     pub refusal: u8,
     pub thread: Thread,

@@ -1,4 +1,6 @@
 // What goes by a machine's method: a line's row, what a line does, the node that a Swap assigns, and where a thread waits.
+#![tactic(auto)]
+
 ghost use Rattle.std.specs.Prelude.{◌≡◌, map};
 ghost use Rattle.machine.specs.Lines.{up_from};
 ghost use Rattle.methods.specs.Methods.{row_by, behind_by, effect_by, assigned_by, spin_line, spin_node};

@@ -1,11 +1,13 @@
 // The shared object: requests and answers, and the queue, the stack and the counter that a request is applied to.
+#![tactic(auto)]
+
 ghost use Rattle.std.specs.Prelude.{◌≡◌, ◌≤◌};
 ghost use Rattle.object.specs.Paper.{within, kind_number, kind_of, request_code, request_value, request_of, answer_mark, answer_value, least_code, most_code, code_known, value_allowed, least_capacity, most_capacity, capacity_allowed, answer_in_range};
 ghost use Rattle.object.specs.Plain.{fresh};
 ghost use Rattle.object.specs.Apply.{fresh_object, contents, knows, answered, refused_with, put_of, take_first_of, take_last_of, take_of, add_of, moved_down, held_in_range, applied_to, apply_of, AppliesPlainly};
 
 // What the object byte of a bench file names.
-#[derive(Drop)]
+#[derive(Clone, Copy)]
 pub enum Kind {
     Queue,
     Stack,
@@ -13,7 +15,7 @@ pub enum Kind {
 }
 
 // Only put and add carry a value.
-#[derive(Drop)]
+#[derive(Clone, Copy)]
 pub enum Request {
     Put(u32),
     Take,
@@ -21,7 +23,7 @@ pub enum Request {
 }
 
 // A put that is done carries the count of items held after it.
-#[derive(Drop)]
+#[derive(Clone, Copy)]
 pub enum Answer {
     Done(u32),
     Value(u32),
@@ -30,7 +32,7 @@ pub enum Answer {
 }
 
 // The object's storage: the queue and the stack use the first `held` of the 64 places, the counter `sum`.
-#[derive(Drop)]
+#[derive(Clone, Copy)]
 pub struct Object {
     pub items: [u32; 64],
     pub held: u8,
@@ -38,7 +40,7 @@ pub struct Object {
 }
 
 // Refusal 0 with the answer and the object after, or a refusal's number with the object as it was.
-#[derive(Drop)]
+#[derive(Clone, Copy)]
 pub struct Applied {
     pub refusal: u8,
     pub answer: Answer,

@@ -1,4 +1,6 @@
 // The pages of a file's run: a table in a fixed pitch.
+#![tactic(auto)]
+
 ghost use Rattle.std.specs.Prelude.{cond, [], ◌*◌, ◌≤◌, length};
 ghost use Rattle.machine.specs.Sizes.{most_calls};
 ghost use Rattle.history.specs.Terms.{record_length};

@@ -1,4 +1,6 @@
 // A bench file's run from its fresh machine, in place: one local state stepped entry by entry, and what a record needs kept of each call.
+#![tactic(auto)]
+
 ghost use Rattle.std.specs.Prelude.{◌≡◌};
 ghost use Rattle.bench_file.specs.Layout.{judge_of};
 ghost use Rattle.runner.specs.Played.{Startable, played_from, unplayed, played_in};
@@ -10,7 +12,7 @@ use state::{Counts, State};
 
 // A run: refusal 0 with the five counts, what is kept of each call, by its place, and the places in Swap order; or a refusal's number, with
 // all counts 0 and nothing kept.
-#[derive(Drop)]
+#[derive(Clone, Copy)]
 pub struct Played {
     pub refusal: u8,
     pub counts: Counts,

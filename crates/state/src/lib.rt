@@ -1,4 +1,6 @@
 // The state of a single step: the machine, the requests, the copies, the object and the counts; and whether the numbers that its method uses are in range.
+#![tactic(auto)]
+
 ghost use Rattle.std.specs.Prelude.{◌≡◌, ◌+◌, ◌≤◌, ◌<◌, take};
 ghost use Rattle.object.specs.Each.{every};
 ghost use Rattle.machine.specs.Methods.{last_node, tail_nullable};
@@ -8,13 +10,13 @@ use machine::{Announced, Method, Node, NodeId, RetVal, Thread};
 use object::{Kind, Object, Request};
 
 // One place of the rows of requests.
-#[derive(Drop)]
+#[derive(Clone, Copy)]
 pub struct Slot {
     pub request: Request,
 }
 
 // The five counts: Swaps done, turns begun, blanks, spins and remote references.
-#[derive(Drop)]
+#[derive(Clone, Copy)]
 pub struct Counts {
     pub records: u32,
     pub turns: u32,
@@ -24,7 +26,7 @@ pub struct Counts {
 }
 
 // The machine of a method. Thread i's requests stand from place 16 · i on. The copies of Tail come first, then those of each node.
-#[derive(Drop)]
+#[derive(Clone, Copy)]
 pub struct State {
     pub method: Method,
     pub n: u8,

@@ -1,4 +1,6 @@
 // The single step: one entry of a schedule on a state, by value.
+#![tactic(auto)]
+
 ghost use Rattle.std.specs.Prelude.{◌≡◌, ◌+◌, ◌-◌, ◌*◌, ◌^◌, ◌<◌, true, nat_lt, slice_index_or, slice_set};
 ghost use Rattle.state.specs.Range.{in_range, counts_in_range};
 ghost use Rattle.step.specs.Entry.{zero_node, served_by, applied_at, more_of, plus, wrapped};
@@ -9,7 +11,7 @@ use object::{Answer, Applied, Kind, Object};
 use state::{Counts, State};
 
 // Refusal 0 with the state after the entry, or a refusal's number with the state as it was.
-#[derive(Drop)]
+#[derive(Clone, Copy)]
 pub struct Stepped {
     pub refusal: u8,
     pub state: State,

@@ -1,4 +1,6 @@
 // Prints what a single step answers and changes: each line, each range of a state, each outcome out of range, and whole runs by steps, of CC-Synch; then the like of DSM-Synch. 0 is no refusal.
+#![tactic(auto)]
+
 mod dsm;
 mod lines;
 mod make;

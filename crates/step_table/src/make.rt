@@ -4,7 +4,7 @@ use object::{Answer, Kind, Request};
 use state::{Counts, Slot, State};
 
 // A change: which field, where, and to what.
-#[derive(Drop)]
+#[derive(Clone, Copy)]
 pub(crate) struct Word {
     pub(crate) field: u8,
     pub(crate) at: u8,
