@@ -57,7 +57,7 @@ use Rattle.claims.proofs.Run.{Going, request_going}
 use Rattle.claims.proofs.Start.{row_fits, row_known}
 use Rattle.claims.proofs.Steps.{one_sound}
 use Rattle.claims.proofs.Telling.{dsm_entry_tells, dsm_tells_of}
-use Rattle.dsm_claims.proofs.Meets.{by, at_line, last_line, count_kept, moves}
+use Rattle.dsm_claims.proofs.Meets.{by, at_line, last_line_lem, count_kept, moves}
 use Rattle.dsm_claims.proofs.Seen.{phase_of, seen_of, positions_of}
 
 -- what DSM-Synch claims of a returned call: one that another served has cost 2; of one that combined nothing
@@ -165,7 +165,7 @@ module _ (f : Fields) (fits : InRange f) (s : State) (past : List Entry) (t : Th
     -- a call returns from waiting with line 12 alone
     by_another : Is Returns e → phase_of (named s t).line ≡ waiting → now.cost t.0 + remote_in e.remote ≡ 2
     by_another q p =
-        by_last (number l) (last_line now.control does (dsm_tells_of s t) q)
+        by_last (number l) (last_line_lem now.control does (dsm_tells_of s t) q)
         (λ z. rw remote_same (returns_12 s.copies few now.control now.tip now.spent does z))
         (λ z. absurd (omega (arith, rw (does.stands, z) at p)))
         (λ z. absurd (omega (arith, rw (does.stands, z) at p)))
@@ -182,7 +182,7 @@ module _ (f : Fields) (fits : InRange f) (s : State) (past : List Entry) (t : Th
     shows = record {
       takes = λ q. (dsm_entry_tells s t).takes q ∙ served_asks now.control now.object l below does.stands (here Applies tells.applies q);
       gives = (dsm_entry_tells s t).answers;
-      returns = λ q. (dsm_entry_tells s t).returns q ∙ answer_there now.control now.object l below does.stands (last_line now.control does (dsm_tells_of s t) q);
+      returns = λ q. (dsm_entry_tells s t).returns q ∙ answer_there now.control now.object l below does.stands (last_line_lem now.control does (dsm_tells_of s t) q);
       by_another = by_another;
       by_itself = λ q p. tt;
       none_left = none_begun;

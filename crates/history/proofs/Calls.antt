@@ -63,6 +63,10 @@ module _ (Paid : Bool → ℕ → ℕ → Type 0) {n h : ℕ} {x x' : Seen} {p p
   was_turned : (u : ℕ) → (u ≡ t → Is TurnBegins e → ⊥) → combining ≤ x'.phase u → combining ≤ x.phase u
   was_turned u apart z = leb-true combining (x.phase u) (sym (same_side u apart (omega arith)) ∙ le-leb combining (x'.phase u) z)
 
+  -- equal turns have served as many
+  served_then : {turn turn' : ℕ} → turn ≡ turn' → served_in turn (e ∷ past) ≡ served_in turn' (e ∷ past)
+  served_then = ap (λ (turn : ℕ). served_in turn (e ∷ past))
+
   -- open calls: of another thread
   abbrev OpenNow : ℕ → Type 0
   OpenNow u = Open n x' u (x'.phase u) (x'.begun u) (x'.counter u) (cost' u) (e ∷ past)
@@ -78,7 +82,7 @@ module _ (Paid : Bool → ℕ → ℕ → Type 0) {n h : ℕ} {x x' : Seen} {p p
         returned = same.returned ∙ old.returned;
         combined = same.combined ∙ old.combined;
         turn = λ y. same.turn ∙ old.turn y ∙ sym turn;
-        served = rw turn (λ y. frozen past m turns _ (old.ended y) ∙ old.served y);
+        served = λ y. served_then turn ∙ frozen past m turns _ (old.ended y) ∙ old.served y;
         ended = rw turn (λ y. ended_kept past m _ (old.ended y));
       })
 
@@ -141,8 +145,8 @@ module _ (Paid : Bool → ℕ → ℕ → Type 0) {n h : ℕ} {x x' : Seen} {p p
           rw (m.counter f) (by_event e TurnEnds (turn_ends past m turns) λ q.
           let was-out = (goes m).left f q in
           let o = calls.open_call t m.below (omega arith) in
-          rw (turn_kept past m t (λ _. was-out.1))
-          (ended_kept past m _ (o.ended was-out.0), frozen past m turns _ (o.ended was-out.0) ∙ o.served was-out.0))
+          let turn = turn_kept past m t (λ _. was-out.1) in
+          (rw turn (ended_kept past m _ (o.ended was-out.0)), served_then turn ∙ frozen past m turns _ (o.ended was-out.0) ∙ o.served was-out.0))
 
   open_kept : (u : ℕ) → u < n → 0 < x'.phase u → OpenNow u
   open_kept u below z = by_equal u t (λ q. rw q (own_open (rw q at z))) (λ q. other_open u below q z)
@@ -237,7 +241,7 @@ module _ (Paid : Bool → ℕ → ℕ → Type 0) {n h : ℕ} {x x' : Seen} {p p
         by_another = λ z. rw same.cost (o.by_another (sym same.combined ∙ z));
         by_itself = λ z.
             let y = sym same.combined ∙ z in
-            rw (same.cost, same.turn, frozen past m turns _ (o.ended y)) (o.by_itself y);
+            rw (same.cost, served_then same.turn ∙ frozen past m turns _ (o.ended y)) (o.by_itself y);
         ended = λ z. rw same.turn (ended_kept past m _ (o.ended (sym same.combined ∙ z)));
       }
 
@@ -296,7 +300,7 @@ module _ (Paid : Bool → ℕ → ℕ → Type 0) {n h : ℕ} {x x' : Seen} {p p
           by_itself = λ z.
               let from = combined_then z in
               let left = (goes m).returns_turn last from in
-              rw (its_turn from, frozen past m turns _ (old.ended left), old.served left, its_cost) (by_itself last left);
+              rw (served_then (its_turn from) ∙ frozen past m turns _ (old.ended left) ∙ old.served left, its_cost) (by_itself last left);
           ended = λ z.
               let from = combined_then z in
               rw (its_turn from) (ended_kept past m _ (old.ended ((goes m).returns_turn last from)));

@@ -23,7 +23,8 @@ pub said_same : (t : ThreadId) (f g : Location → Bool) (accesses : List Access
 said_same t f g [] e = refl
 said_same t f g (a ∷ rest) e =
     ap₂ (λ (b : Bool) (marks : List Bool). not b ∷ marks) (e (located a))
-    (said_same t _ _ rest (λ l. ap (λ (b : Bool). cond (decides t l t a) true b) (e l)))
+    (said_same t (λ l. cond (decides t l t a) true (f l)) (λ l. cond (decides t l t a) true (g l)) rest
+    (λ l. ap (λ (b : Bool). cond (decides t l t a) true b) (e l)))
 
 module _ (n t : ℕ) (below : t < n) (few : n ≤ 16) where
   -- an access leaves as many copies as there were

@@ -9,9 +9,11 @@ use lib.Seq.{take_all, length-take-le}
 use lib.Dec.{eqb}
 use borrow.Author.Tests.{eqb-true, eq-eqb}
 use Rattle.object.proofs.Choice.{by_equal, by_order, by_test}
+use Rattle.machine.specs.declared.ThreadId.{ThreadId}
 use Rattle.machine.specs.declared.Event.TheVariants.{CallBegins}
 use Rattle.history.specs.Entries.{Entry, thread_id, is, Is, is_by}
 use Rattle.history.specs.Terms.{Call, begun_by, call_of, does, number_where}
+use Rattle.history.specs.History.{last_of}
 use Rattle.history.proofs.OfCall.{call, does_told, does_so}
 use Rattle.history.proofs.Told.{is_so}
 
@@ -63,7 +65,8 @@ module _ (c : Call) (e : Entry) (past : List Entry) where
   pub begins_call : does CallBegins c e past ≡ true → (begun_by c.thread past ≡ c.request) × (begun_by c.thread (e ∷ past) ≡ suc c.request)
   begins_call z =
       let told = does_told e past CallBegins c z in
-      rw (told.0, is_so e CallBegins told.1, eq-eqb e.thread.0 e.thread.0 refl) (omega arith)
+      subst (λ (d : Call). (begun_by d.thread past ≡ d.request) × (begun_by d.thread (e ∷ past) ≡ suc d.request)) (sym told.0)
+      (rw (is_so e CallBegins told.1, eq-eqb e.thread.0 e.thread.0 refl) (omega arith))
 
   pub begun_before : does CallBegins c e past ≡ false → c.request < begun_by c.thread (e ∷ past) → c.request < begun_by c.thread past
   begun_before other so =
@@ -74,7 +77,8 @@ module _ (c : Call) (e : Entry) (past : List Entry) where
       let thread : e.thread ≡ c.thread = ap thread_id (eqb-true _ _ both.0) in
       by_equal c.request (begun_by c.thread past)
       (λ last.
-      let mine : call_of e past ≡ c = rw (both.1, thread, eq-eqb c.thread.0 c.thread.0 refl) (ap (call c.thread.0) (omega arith)) in
+      let mine : call_of e past ≡ c =
+      ap (λ (u : ThreadId). last_of u.0 (begun_by u (e ∷ past))) thread ∙ rw begins (ap (call c.thread.0) (omega arith)) in
       absurd (false≢true (sym other ∙ subst (λ (d : Call). does CallBegins d e past ≡ true) mine (does_so e past CallBegins (λ z. omega arith) begun))))
       (λ less. omega (arith, rw begins at so)))
       (λ none. omega (arith, rw none at so))

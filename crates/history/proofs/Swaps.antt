@@ -1,7 +1,7 @@
 -- Swap order, entry by entry: positions, the calls that nodes were given to, and the calls served. Assumes Moves and Swaps before the entry.
 use Prim.Native.Nat.{ℕ, suc, ◌+◌, ◌≤◌, ◌<◌}
 use native.Mathlib.Omega.{arith}
-use mathlib.Core.Path.{◌≡◌, refl, sym, ◌∙◌, ap}
+use mathlib.Core.Path.{◌≡◌, refl, sym, ◌∙◌, ap, subst}
 use mathlib.Core.Bool.{Bool, true, false, cond, ◌&&◌}
 use mathlib.Core.List.{List, [], ◌∷◌, ◌++◌, map, append-nil, map-append}
 use lib.ListN.{length, get_or, take, length-append, get_or-append}
@@ -9,6 +9,7 @@ use lib.Seq.{take-append-le, take-suc, get_or_at}
 use lib.Dec.{eqb}
 use borrow.Author.Tests.{eq-eqb, ne_eqb}
 use Rattle.object.proofs.Choice.{by_equal, by_order}
+use Rattle.machine.specs.declared.ThreadId.{ThreadId}
 use Rattle.machine.specs.declared.Event.TheVariants.{CallBegins, Swaps, Applies}
 use Rattle.step.specs.Entry.{one_if}
 use Rattle.history.specs.Entries.{Entry, thread_id, is, Is}
@@ -30,7 +31,7 @@ module _ {n h : ℕ} {x x' : Seen} {p p' : Positions} {t : ℕ} {e : Entry} {pas
   begun_kept u below =
       by_equal u t
       (λ same.
-      let was = rw same at (w.begun u below) in
+      let was = w.begun u below ∙ ap x.begun same in
       rw (same, m.thread, eq-eqb t t refl)
       (by_event e CallBegins
       (λ q. rw q (omega (arith, (goes m).begins q)))
@@ -45,7 +46,7 @@ module _ {n h : ℕ} {x x' : Seen} {p p' : Positions} {t : ℕ} {e : Entry} {pas
 
   -- the entry is of the last call of its thread
   pub of_last : call_of e past ≡ last_call x' t
-  of_last = rw (by_thread m) (ap (last_of t) (rw (by_thread m) at (begun_kept t m.below)))
+  of_last = ap (λ (u : ThreadId). last_of u.0 (begun_by u (e ∷ past))) (by_thread m) ∙ ap (last_of t) (begun_kept t m.below)
 
   -- positions up to the last Swap, and the entry's own
   pub by_position : {P : Type 0} (i : ℕ) → i < p'.s → (i < p.s → P) → (Is Swaps e → i ≡ p.s → P) → P
@@ -103,7 +104,9 @@ module _ {n h : ℕ} {x x' : Seen} {p p' : Positions} {t : ℕ} {e : Entry} {pas
   given_kept i c low high =
       let more = note.a in
       by_position i high
-      (λ j. rw (note.node i j, order_kept i c j, not_given i (omega arith) j) (w.given i c (omega arith) j))
+      (λ j.
+      subst (λ (k : ℕ). call_assigned (node_id k) (e ∷ past) ≡ get_or (swap_order (e ∷ past)) i c) (sym (note.node i j))
+      (rw (order_kept i c j, not_given i (omega arith) j) (w.given i c (omega arith) j)))
       (λ swap same. rw (same, note.new swap, order_new c swap, is_so e Swaps swap, eq-eqb e.node.0 e.node.0 refl) of_last)
 
   -- what is applied is the request of the first call that is not served

@@ -1,7 +1,7 @@
 -- Turns, entry by entry: who combines, which turn is whose, and how many each has served. Assumes Moves and Turns before the entry.
 use Prim.Native.Nat.{ℕ, suc, ◌+◌, ◌<◌}
 use native.Mathlib.Omega.{arith}
-use mathlib.Core.Path.{◌≡◌, refl, sym, ◌∙◌}
+use mathlib.Core.Path.{◌≡◌, refl, sym, ap, subst, ◌∙◌}
 use mathlib.Core.Bool.{Bool, true, false, cond, ◌&&◌, ◌||◌, false≢true, and-false}
 use mathlib.Core.List.{List, [], ◌∷◌}
 use lib.Dec.{eqb}
@@ -52,6 +52,15 @@ module _ {n h : ℕ} {x x' : Seen} {p p' : Positions} {t : ℕ} {e : Entry} (pas
 
   pub turn_begun : Is TurnBegins e → turn_of (thread_id t) (e ∷ past) ≡ how_many TurnBegins past
   turn_begun z = rw (m.thread, z, eq-eqb t t refl)
+
+  -- the same, where the thread's number is only equal to t
+  turn_now : (u : ℕ) → u ≡ t → Is TurnBegins e → turn_of (thread_id u) (e ∷ past) ≡ how_many TurnBegins past
+  turn_now u same z = ap (λ (v : ℕ). turn_of (thread_id v) (e ∷ past)) same ∙ turn_begun z
+
+  -- what a thread's turn has served, once that turn is known
+  by_its_turn : (u : ℕ) {turn : ℕ} → turn_of (thread_id u) (e ∷ past) ≡ turn → served_in turn (e ∷ past) + p'.b ≡ p'.a
+      → served_in (turn_of (thread_id u) (e ∷ past)) (e ∷ past) + p'.b ≡ p'.a
+  by_its_turn u q = subst (λ (k : ℕ). served_in k (e ∷ past) + p'.b ≡ p'.a) (sym q)
 
   pub turn_kept : (u : ℕ) → (u ≡ t → Is TurnBegins e → ⊥) → turn_of (thread_id u) (e ∷ past) ≡ turn_of (thread_id u) past
   turn_kept u apart =
@@ -137,7 +146,7 @@ module _ {n h : ℕ} {x x' : Seen} {p p' : Positions} {t : ℕ} {e : Entry} (pas
         → Ended n x' (e ∷ past) (turn_of (thread_id t) (e ∷ past)) × (served_in (turn_of (thread_id t) (e ∷ past)) (e ∷ past) ≡ x.counter t)
     turn_ends z =
         let i : InTurn n x t = record { thread = m.below; phase = ((goes m).ends z).0 } in
-        rw (turn_kept t (λ _ y. omega arith)) (
+        subst (λ (turn : ℕ). Ended n x' (e ∷ past) turn × (served_in turn (e ∷ past) ≡ x.counter t)) (sym (turn_kept t (λ _ y. omega arith))) (
           record {
             begun = omega (arith, w.latest t i);
             over = λ u j. by_turn u j (λ same y. absurd (omega arith)) (λ s. absurd (s.ends z));
@@ -162,16 +171,16 @@ module _ {n h : ℕ} {x x' : Seen} {p p' : Positions} {t : ℕ} {e : Entry} (pas
           by_turn u i (λ same z. rw (same, m.thread, z, eq-eqb t t refl))
           (λ s. rw (is_not e TurnBegins s.begins, is_not e TurnEnds s.ends, and-false) (w.in_turn u s.turn));
       latest = λ u i.
-          by_turn u i (λ same z. rw same (omega (arith, turn_begun z, turns_begun z)))
+          by_turn u i (λ same z. omega (arith, turn_now u same z, turns_begun z))
           (λ s. omega (arith, turn_kept u (λ _. s.begins), turns_same s.begins, w.latest u s.turn));
       served = λ u i.
           by_turn u i
           (λ same z.
           let none = served_same (how_many TurnBegins past) (λ y. absurd (omega arith)) ∙ w.unbegun (how_many TurnBegins past) (omega arith) in
-          rw (same, turn_begun z) (omega (arith, none, m.turn_at z, m.notes.b (λ y. omega arith), rw z at m.notes.a)))
+          by_its_turn u (turn_now u same z) (omega (arith, none, m.turn_at z, m.notes.b (λ y. omega arith), rw z at m.notes.a)))
           (λ s.
           let one = served_more (turn_of (thread_id u) past) (λ z. rw (s.serves z)) in
-          rw (turn_kept u (λ _. s.begins)) (omega (arith, one, w.served u s.turn, m.notes.b s.ends, m.notes.a)));
+          by_its_turn u (turn_kept u (λ _. s.begins)) (omega (arith, one, w.served u s.turn, m.notes.b s.ends, m.notes.a)));
       unbegun = λ turn later. omega (arith, w.unbegun turn (omega arith), unserved turn (λ i same. omega arith));
       most = λ turn.
           by_equal (turn_of (thread_id t) past) turn
