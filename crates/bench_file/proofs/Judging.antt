@@ -7,7 +7,6 @@ use lib.ListN.{length, drop}
 use Rattle.object.specs.declared.Request.{Request}
 use Rattle.bench_file.specs.declared.Head.{Head}
 use Rattle.bench_file.specs.declared.Judged.{Judged}
-use Rattle.bench_file.specs.declared.Judged.TheVariants as Judged
 use Rattle.bench_file.specs.Reading.{Outcome, refused, read, Reader, after, ◌>>=◌, ◌>>◌, done, several, end}
 use Rattle.bench_file.specs.Layout.{Fields, head_length, head_reader, row_reader, schedule_reader, file_reader, Judgement, accepted, refused_by, judged, judge_of}
 use Rattle.object.specs.Each.{Each, sum_of}

@@ -9,7 +9,6 @@ use lib.ListN.{length, drop}
 use Rattle.object.specs.Each.{sum_of}
 use Rattle.bench_file.specs.Reading.{Outcome, refused, read, Reader, after, several}
 use Rattle.bench_file.specs.declared.Reached.{Reached}
-use Rattle.bench_file.specs.declared.Reached.TheVariants as Reached
 use Rattle.bench_file.specs.Cursor.{reached, Ahead, tallied, single}
 
 -- tallies that agree give one outcome

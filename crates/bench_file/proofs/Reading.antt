@@ -15,7 +15,7 @@ use Rattle.bench_file.specs.Layout.{is_mark}
 use Rattle.bench_file.specs.Cursor.{number_read, byte_read, reached}
 use Rattle.bench_file.specs.declared.Reached.{Reached}
 use Rattle.bench_file.specs.declared.ByteRead.{ByteRead}
-use Rattle.bench_file.specs.Reading.{Outcome, refused, read, Reader, after, rule, field, little_endian, number, byte, ruled_byte}
+use Rattle.bench_file.specs.Reading.{Outcome, refused, read, Reader, after, rule, field, little_endian, byte, ruled_byte}
 
 -- what follows a value that was read, and a refusal
 pub after_read_lem : {A B : Type 0} {o : Outcome A} {a : A} {rest : List ℕ} (next : A → Reader B) → o ≡ read a rest → after o next ≡ next a rest

@@ -3,17 +3,11 @@ use Rattle.std.specs.Prelude.{ℕ, ◌+◌, ◌≤◌, cond, List, [], ◌∷◌
 use Rattle.bench_file.specs.declared.Head.{Head}
 use Rattle.machine.specs.declared.Method.{Method}
 use Rattle.bench_file.specs.declared.StartRead.{StartRead}
-use Rattle.bench_file.specs.declared.StartRead.TheVariants as StartRead
 use Rattle.bench_file.specs.declared.MethodRead.{MethodRead}
-use Rattle.bench_file.specs.declared.MethodRead.TheVariants as MethodRead
 use Rattle.bench_file.specs.declared.ByteRead.{ByteRead}
-use Rattle.bench_file.specs.declared.ByteRead.TheVariants as ByteRead
 use Rattle.bench_file.specs.declared.HeadRead.{HeadRead}
-use Rattle.bench_file.specs.declared.HeadRead.TheVariants as HeadRead
 use Rattle.bench_file.specs.declared.Reached.{Reached}
-use Rattle.bench_file.specs.declared.Reached.TheVariants as Reached
 use Rattle.bench_file.specs.declared.Judged.{Judged}
-use Rattle.bench_file.specs.declared.Judged.TheVariants as Judged
 use Rattle.bench_file.specs.Layout.{head_length, schedule_reader}
 use Rattle.bench_file.specs.Reading.{Outcome, refused, read}
 

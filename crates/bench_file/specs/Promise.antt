@@ -1,7 +1,6 @@
 -- What `judge` promises of its answer, beside the papers' number and counts for each of the answer's cases.
 use Rattle.std.specs.Prelude.{ℕ, ◌≡◌, ◌↔◌, List, length}
 use Rattle.bench_file.specs.declared.Judged.{Judged}
-use Rattle.bench_file.specs.declared.Judged.TheVariants as Judged
 use Rattle.bench_file.specs.Layout.{Fields, requests_of, Judgement, accepted, refused_by, judge_of}
 use Rattle.bench_file.specs.Bytes.{Tabled, InRange, bytes_of}
 

@@ -5,7 +5,7 @@ use Rattle.object.specs.declared.Request.{Request}
 use Rattle.object.specs.Paper.{within, kind_number, kind_of, least_capacity, most_capacity}
 use Rattle.bench_writer.specs.declared.Written.{Written}
 use Rattle.object.specs.Each.{Each, every, sum_of}
-use Rattle.bench_file.specs.Reading.{Reader, after, ◌>>=◌, ◌>>◌, done, rules, several}
+use Rattle.bench_file.specs.Reading.{Reader, ◌>>=◌, ◌>>◌, done, rules, several}
 use Rattle.machine.specs.Methods.{method_number, method_of}
 use Rattle.bench_file.specs.Layout.{Fields, version_known, Judgement, accepted, refused_by, judged, judge_of, request_reader}
 use Rattle.bench_file.specs.Bytes.{low_first, request_bytes, each_bytes, head_from, bytes_of, Byte}

@@ -151,7 +151,7 @@ fn put(out: &mut [u8], at: usize, src: &[u8])
     requires { at + length src.now ≤ length out.old }
     ensures { out.new ≡ pasted out.old at src.now }
 {
-    bytes::copy(src, &mut out[at..]);
+    out[at..at + src.len()].copy_from_slice(src);
 }
 
 // All bytes before the rows; the method's from version 2 on.
