@@ -1,6 +1,6 @@
 -- What holds of each node in use of a state in range, by either method; so a done count outside 1 to the capacity in the ret of one puts a state out of range, and so does any
 -- done where the object is the counter. Any other answer leaves a node in range. Assumes nothing.
-use Prim.Native.Nat.{ℕ, ◌+◌, ◌≤◌, ◌<◌}
+use Prim.Native.Nat.{ℕ, ◌+◌, ◌≤◌}
 use native.Mathlib.Omega.{arith}
 use mathlib.Core.Path.{◌≡◌}
 use mathlib.Core.Bool.{true, false, not-eq-not, and-eq-true_iff}
