@@ -58,7 +58,8 @@ pub fn put_text(out: &mut [u8], at: usize, text: &[u8]) -> usize
         return at;
     }
     let fits = lesser(out.len() - at, text.len());
-    at + bytes::copy(&text[..fits], &mut out[at..])
+    out[at..at + fits].copy_from_slice(&text[..fits]);
+    at + fits
 }
 
 fn put_digit(out: &mut [u8], at: usize, d: u32) -> usize

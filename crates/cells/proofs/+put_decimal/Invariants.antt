@@ -1,0 +1,5 @@
+-- a tenth is less
+use Rattle.cells.proofs.+put_decimal.Given as goal
+
+abbrev pub decreases-put_decimal : goal.decreases-put_decimal
+decreases-put_decimal l = l.number
