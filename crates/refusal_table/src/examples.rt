@@ -1,12 +1,13 @@
 // The examples of the refusal table, the file of 64 bytes in both versions, and files at a limit, each judged whole and cut at each byte.
+use crate::output::Output;
 use crate::show;
 use crate::show::{cuts, first};
 
-fn judged(name: &[u8], file: &[u8]) {
-    show::text(name);
-    show::text(b":");
-    show::judged(file);
-    show::text(b"\n");
+fn judged(output: &mut Output, name: &[u8], file: &[u8]) {
+    output.text(name);
+    output.text(b":");
+    show::judged(output, file);
+    output.text(b"\n");
 }
 
 // One thread without requests, and a schedule whose length has a given low byte, with 32,769 bytes behind it.
@@ -25,35 +26,57 @@ fn schedule(low: u8) -> [u8; 32781] {
 }
 
 // As many entries as a schedule may have, and one more.
-fn entries() {
+fn entries(output: &mut Output) {
     let long = schedule(1);
-    judged(b"32,769 entries", &long);
+    judged(output, b"32,769 entries", &long);
     let most = schedule(0);
-    judged(b"32,768 entries", first(&most, 32780));
-    judged(b"32,768 entries and a byte", &most);
+    judged(output, b"32,768 entries", first(&most, 32780));
+    judged(output, b"32,768 entries and a byte", &most);
 }
 
 // Version 2: the method's byte stands behind the capacity, and is judged where it is read.
-fn second() {
-    cuts(b"version 0", b"CCS\0\0");
-    cuts(b"version 2, no more", b"CCS\x02\0");
-    cuts(b"version 257", b"CCS\x01\x01");
-    cuts(b"version 258", b"CCS\x02\x01");
-    cuts(b"no method", b"CCS\x02\0\x02\x01\x01\0");
-    cuts(b"method 2, rows", b"CCS\x02\0\x02\x01\x01\0\x02\0\0\0");
-    cuts(b"method 1", b"CCS\x02\0\x02\x01\x01\0\x01");
-    cuts(b"method 1, rows", b"CCS\x02\0\x02\x01\x01\0\x01\0\0\0");
-    cuts(b"method 0, rows", b"CCS\x02\0\x02\x01\x01\0\0\0\0\0");
-    cuts(b"a byte more", b"CCS\x02\0\x02\x01\x01\0\x01\0\0\0\0");
-    cuts(b"capacity 5", b"CCS\x02\0\x02\x01\x01\x05");
-    cuts(b"capacity 5, method 255", b"CCS\x02\0\x02\x01\x01\x05\xFF");
+fn second(output: &mut Output) {
+    cuts(output, b"version 0", b"CCS\0\0");
+    cuts(output, b"version 2, no more", b"CCS\x02\0");
+    cuts(output, b"version 257", b"CCS\x01\x01");
+    cuts(output, b"version 258", b"CCS\x02\x01");
+    cuts(output, b"no method", b"CCS\x02\0\x02\x01\x01\0");
     cuts(
+        output,
+        b"method 2, rows",
+        b"CCS\x02\0\x02\x01\x01\0\x02\0\0\0",
+    );
+    cuts(output, b"method 1", b"CCS\x02\0\x02\x01\x01\0\x01");
+    cuts(
+        output,
+        b"method 1, rows",
+        b"CCS\x02\0\x02\x01\x01\0\x01\0\0\0",
+    );
+    cuts(
+        output,
+        b"method 0, rows",
+        b"CCS\x02\0\x02\x01\x01\0\0\0\0\0",
+    );
+    cuts(
+        output,
+        b"a byte more",
+        b"CCS\x02\0\x02\x01\x01\0\x01\0\0\0\0",
+    );
+    cuts(output, b"capacity 5", b"CCS\x02\0\x02\x01\x01\x05");
+    cuts(
+        output,
+        b"capacity 5, method 255",
+        b"CCS\x02\0\x02\x01\x01\x05\xFF",
+    );
+    cuts(
+        output,
         b"65 bytes, method 0",
         b"CCS\x02\0\x02\x01\x01\0\0\x02\x02\x05\0\0\0\x02\x07\0\0\0\x2A\0\
             \0\0\0\0\0\0\0\0\0\0\0\0\0\0\0\0\0\0\0\0\0\
             \0\0\0\0\0\0\0\0\0\0\0\0\0\0\0\0\0\0\0\0\0",
     );
     cuts(
+        output,
         b"65 bytes, method 1",
         b"CCS\x02\0\x02\x01\x01\0\x01\x02\x02\x05\0\0\0\x02\x07\0\0\0\x2A\0\
             \0\0\0\0\0\0\0\0\0\0\0\0\0\0\0\0\0\0\0\0\0\
@@ -61,38 +84,57 @@ fn second() {
     );
 }
 
-pub(crate) fn run() {
-    cuts(b"example 1", b"CC");
-    cuts(b"example 2", b"CCT");
-    cuts(b"example 3", b"CCS\x03\0");
-    cuts(b"example 4", b"CCS\x01\0\x03");
-    cuts(b"example 5", b"CCS\x01\0\x02\0");
-    cuts(b"example 6", b"CCS\x01\0\x02\x01\0");
-    cuts(b"example 7", b"CCS\x01\0\x02\x01\x01\x05");
-    cuts(b"example 8", b"CCS\x01\0\x02\x01\x01\0\x11");
-    cuts(b"example 9", b"CCS\x01\0\x02\x01\x01\0\x01\x01");
-    cuts(b"example 10", b"CCS\x01\0\x02\x01\x01\0\0\x01\x80");
-    cuts(b"example 11", b"CCS\x01\0\x02\x01\x01\0\0\x01\0\x01");
-    cuts(b"example 12", b"CCS\x01\0\x02\x01\x01\0\0\0\0\xFF");
-    cuts(b"example 15", b"CCS\x02\0\x02\x01\x01\0\x02");
+pub(crate) fn run(output: &mut Output) {
+    cuts(output, b"example 1", b"CC");
+    cuts(output, b"example 2", b"CCT");
+    cuts(output, b"example 3", b"CCS\x03\0");
+    cuts(output, b"example 4", b"CCS\x01\0\x03");
+    cuts(output, b"example 5", b"CCS\x01\0\x02\0");
+    cuts(output, b"example 6", b"CCS\x01\0\x02\x01\0");
+    cuts(output, b"example 7", b"CCS\x01\0\x02\x01\x01\x05");
+    cuts(output, b"example 8", b"CCS\x01\0\x02\x01\x01\0\x11");
+    cuts(output, b"example 9", b"CCS\x01\0\x02\x01\x01\0\x01\x01");
+    cuts(output, b"example 10", b"CCS\x01\0\x02\x01\x01\0\0\x01\x80");
     cuts(
+        output,
+        b"example 11",
+        b"CCS\x01\0\x02\x01\x01\0\0\x01\0\x01",
+    );
+    cuts(output, b"example 12", b"CCS\x01\0\x02\x01\x01\0\0\0\0\xFF");
+    cuts(output, b"example 15", b"CCS\x02\0\x02\x01\x01\0\x02");
+    cuts(
+        output,
         b"64 bytes",
         b"CCS\x01\0\x02\x01\x01\0\x02\x02\x05\0\0\0\x02\x07\0\0\0\x2A\0\
             \0\0\0\0\0\0\0\0\0\0\0\0\0\0\0\0\0\0\0\0\0\
             \0\0\0\0\0\0\0\0\0\0\0\0\0\0\0\0\0\0\0\0\0",
     );
-    cuts(b"length 32,768", b"CCS\x01\0\x02\x01\x01\0\0\0\x80");
-    cuts(b"length 65,535", b"CCS\x01\0\x02\x01\x01\0\0\xFF\xFF");
-    cuts(b"length 2, entry 0", b"CCS\x01\0\x02\x01\x01\0\0\x02\0\0");
-    cuts(b"length 2, entry 1", b"CCS\x01\0\x02\x01\x01\0\0\x02\0\x01");
+    cuts(output, b"length 32,768", b"CCS\x01\0\x02\x01\x01\0\0\0\x80");
     cuts(
+        output,
+        b"length 65,535",
+        b"CCS\x01\0\x02\x01\x01\0\0\xFF\xFF",
+    );
+    cuts(
+        output,
+        b"length 2, entry 0",
+        b"CCS\x01\0\x02\x01\x01\0\0\x02\0\0",
+    );
+    cuts(
+        output,
+        b"length 2, entry 1",
+        b"CCS\x01\0\x02\x01\x01\0\0\x02\0\x01",
+    );
+    cuts(
+        output,
         b"n 16, entry 15",
         b"CCS\x01\0\x01\x10\xFF\x40\0\0\0\0\0\0\0\0\0\0\0\0\0\0\0\0\x02\0\0\x0F",
     );
     cuts(
+        output,
         b"n 16, entry 16",
         b"CCS\x01\0\x01\x10\xFF\x40\0\0\0\0\0\0\0\0\0\0\0\0\0\0\0\0\x02\0\0\x10",
     );
-    entries();
-    second();
+    entries(output);
+    second(output);
 }

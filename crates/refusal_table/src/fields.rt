@@ -1,6 +1,7 @@
 // One byte of an accepted file is exchanged for each of several values. The file is judged, and written from its fields.
 ghost use Rattle.std.specs.Prelude.{◌<◌, ◌≤◌};
 
+use crate::output::Output;
 use crate::show;
 use crate::show::first;
 
@@ -29,17 +30,18 @@ fn version(low: u8, high: u8) -> u16 {
     (low as u16) + 256 * (high as u16)
 }
 
-fn answers(file: [u8; 19], rows: usize)
+fn answers(output: &mut Output, file: [u8; 19], rows: usize)
     requires { rows ≤ 10 }
 {
     let bytes: &[u8] = first(&file, rows + 9);
-    show::judged(bytes);
+    show::judged(output, bytes);
     let mut method = 0;
     if rows == SECOND {
         method = file[9];
     }
     let mut out = [0u8; 21];
     show::written(
+        output,
         version(file[3], file[4]),
         [file[5], file[6], file[7], file[8], method],
         &[file[rows]],
@@ -56,38 +58,53 @@ fn answers(file: [u8; 19], rows: usize)
     );
 }
 
-fn sweep(name: &[u8], field: &[u8], file: [u8; 19], rows: usize, at: usize, values: &[u8])
+fn sweep(
+    output: &mut Output,
+    name: &[u8],
+    field: &[u8],
+    file: [u8; 19],
+    rows: usize,
+    at: usize,
+    values: &[u8],
+)
     requires { (rows ≤ 10) × (at < 19) }
 {
-    let mut i = 0;
-    while i < values.len() {
-        show::text(name);
-        show::text(b" ");
-        show::text(field);
-        show::byte(values[i]);
-        show::text(b":");
+    for value in values {
+        output.text(name);
+        output.text(b" ");
+        output.text(field);
+        output.byte(*value);
+        output.text(b":");
         let mut other = file;
-        other[at] = values[i];
-        answers(other, rows);
-        i += 1;
+        other[at] = *value;
+        answers(output, other, rows);
     }
 }
 
-fn starts(name: &[u8], file: [u8; 19], rows: usize)
+fn starts(output: &mut Output, name: &[u8], file: [u8; 19], rows: usize)
     requires { rows ≤ 10 }
 {
-    sweep(name, b"mark 0", file, rows, 0, &[0x42, 0x44]);
-    sweep(name, b"mark 1", file, rows, 1, &[0x42, 0x44]);
-    sweep(name, b"mark 2", file, rows, 2, &[0x52, 0x54]);
-    sweep(name, b"version low", file, rows, 3, &[0, 1, 2, 3]);
-    sweep(name, b"version high", file, rows, 4, &[0, 1]);
+    sweep(output, name, b"mark 0", file, rows, 0, &[0x42, 0x44]);
+    sweep(output, name, b"mark 1", file, rows, 1, &[0x42, 0x44]);
+    sweep(output, name, b"mark 2", file, rows, 2, &[0x52, 0x54]);
+    sweep(output, name, b"version low", file, rows, 3, &[0, 1, 2, 3]);
+    sweep(output, name, b"version high", file, rows, 4, &[0, 1]);
 }
 
-fn lengths(name: &[u8], file: [u8; 19], rows: usize)
+fn lengths(output: &mut Output, name: &[u8], file: [u8; 19], rows: usize)
     requires { rows ≤ 10 }
 {
-    sweep(name, b"length low", file, rows, rows + 6, &[0, 1, 2]);
     sweep(
+        output,
+        name,
+        b"length low",
+        file,
+        rows,
+        rows + 6,
+        &[0, 1, 2],
+    );
+    sweep(
+        output,
         name,
         b"length high",
         file,
@@ -97,54 +114,54 @@ fn lengths(name: &[u8], file: [u8; 19], rows: usize)
     );
 }
 
-fn numbers(name: &[u8], file: [u8; 19], rows: usize)
+fn numbers(output: &mut Output, name: &[u8], file: [u8; 19], rows: usize)
     requires { rows ≤ 10 }
 {
-    sweep(name, b"object", file, rows, 5, &[0, 1, 2, 3]);
-    sweep(name, b"n", file, rows, 6, &[0, 1, 16, 17]);
-    sweep(name, b"h", file, rows, 7, &[0, 1, 255]);
-    sweep(name, b"capacity", file, rows, 8, &[0, 1, 64, 65]);
-    sweep(name, b"count", file, rows, rows, &[0, 1, 16, 17]);
-    sweep(name, b"entry", file, rows, rows + 8, &[0, 1, 255]);
+    sweep(output, name, b"object", file, rows, 5, &[0, 1, 2, 3]);
+    sweep(output, name, b"n", file, rows, 6, &[0, 1, 16, 17]);
+    sweep(output, name, b"h", file, rows, 7, &[0, 1, 255]);
+    sweep(output, name, b"capacity", file, rows, 8, &[0, 1, 64, 65]);
+    sweep(output, name, b"count", file, rows, rows, &[0, 1, 16, 17]);
+    sweep(output, name, b"entry", file, rows, rows + 8, &[0, 1, 255]);
 }
 
-fn requests(name: &[u8], file: [u8; 19], rows: usize)
+fn requests(output: &mut Output, name: &[u8], file: [u8; 19], rows: usize)
     requires { rows ≤ 10 }
 {
-    show::cuts(name, first(&file, rows + 9));
-    sweep(name, b"code", file, rows, rows + 1, &[0, 1, 2, 3]);
-    sweep(name, b"value 0", file, rows, rows + 2, &[1]);
-    sweep(name, b"value 1", file, rows, rows + 3, &[1]);
-    sweep(name, b"value 2", file, rows, rows + 4, &[1]);
-    sweep(name, b"value 3", file, rows, rows + 5, &[1]);
+    show::cuts(output, name, first(&file, rows + 9));
+    sweep(output, name, b"code", file, rows, rows + 1, &[0, 1, 2, 3]);
+    sweep(output, name, b"value 0", file, rows, rows + 2, &[1]);
+    sweep(output, name, b"value 1", file, rows, rows + 3, &[1]);
+    sweep(output, name, b"value 2", file, rows, rows + 4, &[1]);
+    sweep(output, name, b"value 3", file, rows, rows + 5, &[1]);
 }
 
 // In version 2, and by the other method.
-fn second() {
+fn second(output: &mut Output) {
     let queue = small(SECOND, 0, 1, 0);
     let name = b"version 2 queue";
-    starts(name, queue, SECOND);
-    lengths(name, queue, SECOND);
-    numbers(name, queue, SECOND);
-    sweep(name, b"method", queue, SECOND, 9, &[0, 1, 2, 255]);
+    starts(output, name, queue, SECOND);
+    lengths(output, name, queue, SECOND);
+    numbers(output, name, queue, SECOND);
+    sweep(output, name, b"method", queue, SECOND, 9, &[0, 1, 2, 255]);
     let mut counter = small(SECOND, 2, 0, 2);
     counter[9] = 1;
     let name = b"version 2 counter";
-    numbers(name, counter, SECOND);
-    sweep(name, b"method", counter, SECOND, 9, &[0, 1, 2, 255]);
-    requests(b"version 2 counter add", counter, SECOND);
+    numbers(output, name, counter, SECOND);
+    sweep(output, name, b"method", counter, SECOND, 9, &[0, 1, 2, 255]);
+    requests(output, b"version 2 counter add", counter, SECOND);
 }
 
-pub(crate) fn run() {
-    starts(b"queue", small(FIRST, 0, 1, 0), FIRST);
-    lengths(b"queue", small(FIRST, 0, 1, 0), FIRST);
-    numbers(b"queue", small(FIRST, 0, 1, 0), FIRST);
-    numbers(b"stack", small(FIRST, 1, 1, 0), FIRST);
-    numbers(b"counter", small(FIRST, 2, 0, 2), FIRST);
-    requests(b"queue put", small(FIRST, 0, 1, 0), FIRST);
-    requests(b"queue take", small(FIRST, 0, 1, 1), FIRST);
-    requests(b"stack put", small(FIRST, 1, 1, 0), FIRST);
-    requests(b"stack take", small(FIRST, 1, 1, 1), FIRST);
-    requests(b"counter add", small(FIRST, 2, 0, 2), FIRST);
-    second();
+pub(crate) fn run(output: &mut Output) {
+    starts(output, b"queue", small(FIRST, 0, 1, 0), FIRST);
+    lengths(output, b"queue", small(FIRST, 0, 1, 0), FIRST);
+    numbers(output, b"queue", small(FIRST, 0, 1, 0), FIRST);
+    numbers(output, b"stack", small(FIRST, 1, 1, 0), FIRST);
+    numbers(output, b"counter", small(FIRST, 2, 0, 2), FIRST);
+    requests(output, b"queue put", small(FIRST, 0, 1, 0), FIRST);
+    requests(output, b"queue take", small(FIRST, 0, 1, 1), FIRST);
+    requests(output, b"stack put", small(FIRST, 1, 1, 0), FIRST);
+    requests(output, b"stack take", small(FIRST, 1, 1, 1), FIRST);
+    requests(output, b"counter add", small(FIRST, 2, 0, 2), FIRST);
+    second(output);
 }

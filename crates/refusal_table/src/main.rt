@@ -3,11 +3,17 @@
 
 mod examples;
 mod fields;
+mod output;
 mod rows;
 mod show;
 
-fn main() {
-    examples::run();
-    fields::run();
-    rows::run();
+use output::Output;
+use std::io;
+
+fn main(rt: HostRuntime) -> io::Result<()> {
+    let mut output = Output::new(rt.stdout());
+    examples::run(&mut output);
+    fields::run(&mut output);
+    rows::run(&mut output);
+    output.finish()
 }

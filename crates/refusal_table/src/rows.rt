@@ -1,28 +1,38 @@
 // The writer's rows and the lent buffer at their limits, and several faults at once.
 ghost use Rattle.std.specs.Prelude.{◌≤◌};
 
+use crate::output::Output;
 use crate::show;
 use crate::show::{fill, first};
 
 // The version and the bytes given: object, n, h, capacity, method, each count, each request's code, the first and last byte of its
 // value, and each second entry; the other entries are 0. Then the lengths of the counts, the requests, the schedule and the lent buffer.
-fn case(version: u16, given: [u8; 9], counts: usize, requests: usize, schedule: usize, room: usize)
+fn case(
+    output: &mut Output,
+    version: u16,
+    given: [u8; 9],
+    counts: usize,
+    requests: usize,
+    schedule: usize,
+    room: usize,
+)
     requires { room ≤ 34077 }
 {
-    show::text(b"given");
-    show::number(version as u64);
-    show::bytes(&given);
-    show::text(b" rows");
-    show::number(counts as u64);
-    show::number(requests as u64);
-    show::number(schedule as u64);
-    show::text(b" room");
-    show::number(room as u64);
-    show::text(b":");
-    write_rows(version, given, counts, requests, schedule, room);
+    output.text(b"given");
+    output.number(version as u64);
+    output.bytes(&given);
+    output.text(b" rows");
+    output.number(counts as u64);
+    output.number(requests as u64);
+    output.number(schedule as u64);
+    output.text(b" room");
+    output.number(room as u64);
+    output.text(b":");
+    write_rows(output, version, given, counts, requests, schedule, room);
 }
 
 fn write_rows(
+    output: &mut Output,
     version: u16,
     given: [u8; 9],
     counts: usize,
@@ -40,6 +50,7 @@ fn write_rows(
     fill(&mut entry_row, &[0, given[8]]);
     let mut out = [0u8; 34077];
     show::written(
+        output,
         version,
         [given[0], given[1], given[2], given[3], given[4]],
         first(&count_row, counts),
@@ -53,81 +64,89 @@ fn write_rows(
 // Two threads with a put each; with two entries 25 bytes.
 const PUTS: [u8; 9] = [0, 2, 1, 1, 0, 1, 0, 7, 1];
 
-fn lengths() {
-    case(1, PUTS, 2, 10, 2, 25);
-    case(1, PUTS, 2, 10, 2, 26);
-    case(1, PUTS, 2, 10, 2, 24);
-    case(1, PUTS, 2, 10, 2, 0);
-    case(1, PUTS, 0, 10, 2, 25);
-    case(1, PUTS, 1, 10, 2, 25);
-    case(1, PUTS, 3, 10, 2, 25);
-    case(1, PUTS, 2, 0, 2, 25);
-    case(1, PUTS, 2, 9, 2, 25);
-    case(1, PUTS, 2, 11, 2, 25);
-    case(1, PUTS, 2, 10, 0, 23);
-    case(1, PUTS, 2, 10, 32768, 32791);
-    case(1, PUTS, 2, 10, 32769, 32792);
-    case(1, PUTS, 2, 10, 65536, 34077);
-    case(1, PUTS, 2, 10, 70000, 34077);
-    case(1, [0, 2, 1, 1, 0, 1, 0, 7, 2], 2, 10, 32768, 32791);
+fn lengths(output: &mut Output) {
+    case(output, 1, PUTS, 2, 10, 2, 25);
+    case(output, 1, PUTS, 2, 10, 2, 26);
+    case(output, 1, PUTS, 2, 10, 2, 24);
+    case(output, 1, PUTS, 2, 10, 2, 0);
+    case(output, 1, PUTS, 0, 10, 2, 25);
+    case(output, 1, PUTS, 1, 10, 2, 25);
+    case(output, 1, PUTS, 3, 10, 2, 25);
+    case(output, 1, PUTS, 2, 0, 2, 25);
+    case(output, 1, PUTS, 2, 9, 2, 25);
+    case(output, 1, PUTS, 2, 11, 2, 25);
+    case(output, 1, PUTS, 2, 10, 0, 23);
+    case(output, 1, PUTS, 2, 10, 32768, 32791);
+    case(output, 1, PUTS, 2, 10, 32769, 32792);
+    case(output, 1, PUTS, 2, 10, 65536, 34077);
+    case(output, 1, PUTS, 2, 10, 70000, 34077);
+    case(output, 1, [0, 2, 1, 1, 0, 1, 0, 7, 2], 2, 10, 32768, 32791);
 }
 
 // Sixteen threads with sixteen puts each; with 32,768 entries the longest file of its version.
 const MOST: [u8; 9] = [0, 16, 255, 64, 0, 16, 0, 7, 15];
 
-fn largest() {
-    case(1, MOST, 16, 1280, 32768, 34075);
-    case(1, MOST, 16, 1280, 32768, 34074);
-    case(1, MOST, 17, 1280, 32768, 34075);
-    case(1, MOST, 16, 1281, 32768, 34075);
-    case(1, MOST, 16, 1280, 32769, 34077);
-    case(1, [0, 16, 255, 64, 0, 17, 0, 7, 15], 16, 1280, 2, 34075);
-    case(1, [1, 16, 255, 64, 0, 0, 0, 7, 15], 16, 0, 2, 29);
-    case(1, [1, 16, 255, 64, 0, 0, 0, 7, 16], 16, 0, 2, 29);
-    case(1, [2, 1, 1, 0, 0, 16, 2, 7, 0], 1, 80, 0, 92);
+fn largest(output: &mut Output) {
+    case(output, 1, MOST, 16, 1280, 32768, 34075);
+    case(output, 1, MOST, 16, 1280, 32768, 34074);
+    case(output, 1, MOST, 17, 1280, 32768, 34075);
+    case(output, 1, MOST, 16, 1281, 32768, 34075);
+    case(output, 1, MOST, 16, 1280, 32769, 34077);
+    case(
+        output,
+        1,
+        [0, 16, 255, 64, 0, 17, 0, 7, 15],
+        16,
+        1280,
+        2,
+        34075,
+    );
+    case(output, 1, [1, 16, 255, 64, 0, 0, 0, 7, 15], 16, 0, 2, 29);
+    case(output, 1, [1, 16, 255, 64, 0, 0, 0, 7, 16], 16, 0, 2, 29);
+    case(output, 1, [2, 1, 1, 0, 0, 16, 2, 7, 0], 1, 80, 0, 92);
 }
 
 // The same in version 2, a byte longer; each version with the methods that it has, and that it has not.
-fn second() {
-    case(2, PUTS, 2, 10, 2, 26);
-    case(2, PUTS, 2, 10, 2, 25);
-    case(2, MOST, 16, 1280, 32768, 34076);
-    case(2, MOST, 16, 1280, 32768, 34075);
-    case(0, PUTS, 2, 10, 2, 26);
-    case(3, PUTS, 2, 10, 2, 26);
-    case(257, PUTS, 2, 10, 2, 26);
-    case(258, PUTS, 2, 10, 2, 26);
-    case(65535, PUTS, 2, 10, 2, 26);
-    case(1, [0, 2, 1, 1, 1, 1, 0, 7, 1], 2, 10, 2, 26);
-    case(2, [0, 2, 1, 1, 1, 1, 0, 7, 1], 2, 10, 2, 26);
-    case(2, [0, 2, 1, 1, 2, 1, 0, 7, 1], 2, 10, 2, 26);
-    case(2, [0, 2, 1, 1, 255, 1, 0, 7, 1], 2, 10, 2, 26);
+fn second(output: &mut Output) {
+    case(output, 2, PUTS, 2, 10, 2, 26);
+    case(output, 2, PUTS, 2, 10, 2, 25);
+    case(output, 2, MOST, 16, 1280, 32768, 34076);
+    case(output, 2, MOST, 16, 1280, 32768, 34075);
+    case(output, 0, PUTS, 2, 10, 2, 26);
+    case(output, 3, PUTS, 2, 10, 2, 26);
+    case(output, 257, PUTS, 2, 10, 2, 26);
+    case(output, 258, PUTS, 2, 10, 2, 26);
+    case(output, 65535, PUTS, 2, 10, 2, 26);
+    case(output, 1, [0, 2, 1, 1, 1, 1, 0, 7, 1], 2, 10, 2, 26);
+    case(output, 2, [0, 2, 1, 1, 1, 1, 0, 7, 1], 2, 10, 2, 26);
+    case(output, 2, [0, 2, 1, 1, 2, 1, 0, 7, 1], 2, 10, 2, 26);
+    case(output, 2, [0, 2, 1, 1, 255, 1, 0, 7, 1], 2, 10, 2, 26);
 }
 
 // All faults at once; then the first of them mended, time after time.
-fn faults() {
-    case(3, [3, 0, 0, 65, 2, 17, 3, 7, 255], 3, 11, 32769, 0);
-    case(2, [3, 0, 0, 65, 2, 17, 3, 7, 255], 3, 11, 32769, 0);
-    case(2, [0, 0, 0, 65, 2, 17, 3, 7, 255], 3, 11, 32769, 0);
-    case(2, [0, 2, 0, 65, 2, 17, 3, 7, 255], 3, 11, 32769, 0);
-    case(2, [0, 2, 1, 65, 2, 17, 3, 7, 255], 3, 11, 32769, 0);
-    case(2, [0, 2, 1, 64, 2, 17, 3, 7, 255], 3, 11, 32769, 0);
-    case(2, [0, 2, 1, 64, 1, 17, 3, 7, 255], 3, 11, 32769, 0);
-    case(2, [0, 2, 1, 64, 1, 17, 3, 7, 255], 1, 11, 32769, 0);
-    case(2, [0, 2, 1, 64, 1, 17, 3, 7, 255], 2, 11, 32769, 0);
-    case(2, [0, 2, 1, 64, 1, 1, 3, 7, 255], 2, 11, 32769, 0);
-    case(2, [0, 2, 1, 64, 1, 1, 3, 7, 255], 2, 9, 32769, 0);
-    case(2, [0, 2, 1, 64, 1, 1, 3, 7, 255], 2, 10, 32769, 0);
-    case(2, [0, 2, 1, 64, 1, 1, 1, 7, 255], 2, 10, 32769, 0);
-    case(2, [0, 2, 1, 64, 1, 1, 1, 0, 255], 2, 10, 32769, 0);
-    case(2, [0, 2, 1, 64, 1, 1, 1, 0, 255], 2, 10, 2, 0);
-    case(2, [0, 2, 1, 64, 1, 1, 1, 0, 1], 2, 10, 2, 0);
-    case(2, [0, 2, 1, 64, 1, 1, 1, 0, 1], 2, 10, 2, 26);
+fn faults(output: &mut Output) {
+    case(output, 3, [3, 0, 0, 65, 2, 17, 3, 7, 255], 3, 11, 32769, 0);
+    case(output, 2, [3, 0, 0, 65, 2, 17, 3, 7, 255], 3, 11, 32769, 0);
+    case(output, 2, [0, 0, 0, 65, 2, 17, 3, 7, 255], 3, 11, 32769, 0);
+    case(output, 2, [0, 2, 0, 65, 2, 17, 3, 7, 255], 3, 11, 32769, 0);
+    case(output, 2, [0, 2, 1, 65, 2, 17, 3, 7, 255], 3, 11, 32769, 0);
+    case(output, 2, [0, 2, 1, 64, 2, 17, 3, 7, 255], 3, 11, 32769, 0);
+    case(output, 2, [0, 2, 1, 64, 1, 17, 3, 7, 255], 3, 11, 32769, 0);
+    case(output, 2, [0, 2, 1, 64, 1, 17, 3, 7, 255], 1, 11, 32769, 0);
+    case(output, 2, [0, 2, 1, 64, 1, 17, 3, 7, 255], 2, 11, 32769, 0);
+    case(output, 2, [0, 2, 1, 64, 1, 1, 3, 7, 255], 2, 11, 32769, 0);
+    case(output, 2, [0, 2, 1, 64, 1, 1, 3, 7, 255], 2, 9, 32769, 0);
+    case(output, 2, [0, 2, 1, 64, 1, 1, 3, 7, 255], 2, 10, 32769, 0);
+    case(output, 2, [0, 2, 1, 64, 1, 1, 1, 7, 255], 2, 10, 32769, 0);
+    case(output, 2, [0, 2, 1, 64, 1, 1, 1, 0, 255], 2, 10, 32769, 0);
+    case(output, 2, [0, 2, 1, 64, 1, 1, 1, 0, 255], 2, 10, 2, 0);
+    case(output, 2, [0, 2, 1, 64, 1, 1, 1, 0, 1], 2, 10, 2, 0);
+    case(output, 2, [0, 2, 1, 64, 1, 1, 1, 0, 1], 2, 10, 2, 26);
 }
 
-pub(crate) fn run() {
-    lengths();
-    largest();
-    second();
-    faults();
+pub(crate) fn run(output: &mut Output) {
+    lengths(output);
+    largest(output);
+    second(output);
+    faults(output);
 }

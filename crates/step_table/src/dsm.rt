@@ -1,10 +1,12 @@
 // DSM-Synch, from a state in use: thread 0 of two with myNode 1, myPredNode 2 and tmpNode 3, Tail at node 1, h 1. Its variables of CC-Synch are out of that method's
 // range, and so is all past its last node, 3.
+use crate::output::Output;
 use crate::script::table;
 
-pub(crate) fn run() {
+pub(crate) fn run(output: &mut Output) {
     // Each line, and what decides its outcome or whose the nodes are that it goes to.
     table(
+        output,
         0,
         b"dsm line 1: H.
 dsm blank: H b0=3.
@@ -54,6 +56,7 @@ dsm line 26, remote three below 2 to the 32: H l0=26 f3=2 M253.",
     );
     // Ranges: each just inside and just outside, in the thread that steps and in the other, and past n and the last node; 14 for the state.
     table(
+        output,
         1,
         b"dsm line of thread 0: H l0=0,1,2,3,13,14,21,22,28,29,255,
 dsm begun 0: H b0=0 l0=0,2,28,
@@ -78,6 +81,7 @@ cc toggle, my and pred: q @2 O0=9 y0=254 J0=255.",
     );
     // Whole runs by steps: document 01's counter file, a CAS that fails, h as the limit of a turn, and an entry that would follow null.
     table(
+        output,
         0,
         b"dsm, two adds, 19 entries: I A0=5 A1=7 r0=2 |!0=19.
 dsm, two adds, 42 entries: I A0=5 A1=7 r0=2 |!0=42.

@@ -1,9 +1,11 @@
 // Each line, from states in use: thread 1 of three with own node 0, curNode 2, tmpNode 3 and tmpNodeNext 1, Tail at node 1.
+use crate::output::Output;
 use crate::script::table;
 
-pub(crate) fn run() {
+pub(crate) fn run(output: &mut Output) {
     // Each of the eight choices of who has a copy of what the line goes to, each node that its pointers can name, and other threads.
     table(
+        output,
         1,
         b"line 1: q.
 line 2: q l1=2 z0,1,2,3,4,5,6,7,i1=0,1,2,3,
@@ -43,6 +45,7 @@ line 6, thread 15 of 16: X @15 P255=16 G254=0 l15=6 u15=16 b15=1,15,16,",
     );
     // Lines whose outcome goes by what a node, Tail, a thread or the object holds.
     table(
+        output,
         1,
         b"line 9, all other nodes wait: q l1=9 w0=1 w1=1 w3=1.
 line 9, no other node waits: q l1=9 w1=0 w2=1 w3=0.

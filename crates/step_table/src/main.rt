@@ -5,15 +5,21 @@ mod dsm;
 mod lines;
 mod make;
 mod outcomes;
+mod output;
 mod ranges;
 mod runs;
 mod script;
 mod show;
 
-fn main() {
-    lines::run();
-    ranges::run();
-    outcomes::run();
-    runs::run();
-    dsm::run();
+use output::Output;
+use std::io;
+
+fn main(rt: HostRuntime) -> io::Result<()> {
+    let mut output = Output::new(rt.stdout());
+    lines::run(&mut output);
+    ranges::run(&mut output);
+    outcomes::run(&mut output);
+    runs::run(&mut output);
+    dsm::run(&mut output);
+    output.finish()
 }

@@ -120,11 +120,9 @@ fn slot_with(kind: Kind, slot: Slot, word: Word) -> Slot {
 fn choices(first: u8) -> [u16; machine::LOCATIONS] {
     let mut copies = [0; machine::LOCATIONS];
     let mut low = first;
-    let mut i = 0;
-    while i < machine::LOCATIONS {
+    for i in 0..machine::LOCATIONS {
         copies[i] = bits(0xA5, (low % 8) | 0xA8);
         low = std::num::wrapping_add_u8(low, 1);
-        i += 1;
     }
     copies
 }
@@ -201,11 +199,9 @@ fn thread(count: u8, begun: u8, line: u8, node: u8, served: u8) -> Thread {
 fn items() -> [u32; 64] {
     let mut items = [0; 64];
     let mut value = 900;
-    let mut i = 0;
-    while i < 64 {
+    for i in 0..64 {
         items[i] = value;
         value = std::num::wrapping_add_u32(value, 1);
-        i += 1;
     }
     items
 }

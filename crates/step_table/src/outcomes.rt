@@ -1,9 +1,11 @@
 // 14 for the outcome: counts past 32 bits at each line, the served counter past h, null into tmpNode, an empty req or ret.
+use crate::output::Output;
 use crate::script::table;
 
-pub(crate) fn run() {
+pub(crate) fn run(output: &mut Output) {
     // Each count at its limit: lines that go to nothing shared, then those that do, where no thread has a copy.
     table(
+        output,
         1,
         b"limit, line 1: q R255,T255,B255,L255,M255,U254,
 limit, line 8: q l1=8 R255,T255,B255,L255,M255,U254,
@@ -32,6 +34,7 @@ limit, line 21, no copies: q l1=21 W165=168 R255,T255,B255,L255,M255,U254,",
     );
     // Thread 1 has all copies, some with line 16's node among them, or some without it; the other causes; counts as far below the limit as the line adds.
     table(
+        output,
         1,
         b"limit, line 3, copies: q l1=3 W165=170 R255,T255,B255,L255,M255,U254,
 limit, line 5, copies: q l1=5 W165=170 R255,T255,B255,L255,M255,U254,

@@ -1,10 +1,12 @@
 // 14 for the state, then 11: each number just inside and just outside its range, in the thread that steps and in others, and past n.
 // Where nothing is refused, thread 2 has no request left and its step is a blank.
+use crate::output::Output;
 use crate::script::table;
 
-pub(crate) fn run() {
+pub(crate) fn run(output: &mut Output) {
     // The numbers that stand alone, and those of a thread, judged whether it steps or not.
     table(
+        output,
         0,
         b"state: Q n0,1,2,15,16,17,255,h0,1,2,254,255,
 used: q n0,1,2,3,4,16,17,
@@ -35,6 +37,7 @@ last of 16, h 1: X v15=0,1,2,
     );
     // Nodes; requests, of which three, three and one from places 0, 16 and 32 on are judged; and entries.
     table(
+        output,
         2,
         b"node 0: q f0=0,3,4,254,255,
 node 3: q f3=0,3,4,254,255,

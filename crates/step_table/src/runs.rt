@@ -1,9 +1,11 @@
 // Whole runs by steps, from document 01's start: its runs that touch a bound, a stack of capacity 2 that fills up, and long walks of many threads.
+use crate::output::Output;
 use crate::script::table;
 
-pub(crate) fn run() {
+pub(crate) fn run(output: &mut Output) {
     // Runs of one thread and of two, then many steps of three threads that put and take in turn, and of sixteen.
     table(
+        output,
         0,
         b"64 bytes, 42 entries: C A0=5 A1=7 r0=2 |!0=42.
 64 bytes, 4 entries: C A0=5 A1=7 r0=2 |!0=4.

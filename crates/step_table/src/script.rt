@@ -2,6 +2,7 @@
 // A letter names a field, as make says; a number before = says where, a number after it to what; a space or a point ends a change.
 // A comma shows a case named by what the change sets, a semicolon by where, a point by neither. A bar stands before the steps of a run.
 use crate::make::Word;
+use crate::output::Output;
 use crate::{make, show};
 use machine::Method;
 use object::Kind;
@@ -40,27 +41,25 @@ fn read(word: Word, byte: u8) -> Word {
 }
 
 // A thread's steps, a hundred times as many steps of all threads, or a part changed.
-fn done(state: State, word: Word) -> State {
+fn done(output: &mut Output, state: State, word: Word) -> State {
     let field = word.field;
     match field {
-        b'!' => show::steps(state, word.at, word.value),
-        b'?' => show::walk(state, word.at, hundred_times(word.value)),
+        b'!' => show::steps(output, state, word.at, word.value),
+        b'?' => show::walk(output, state, word.at, hundred_times(word.value)),
         _ => make::set(state, word),
     }
 }
 
 // A state after all changes of a script.
-fn changed(state: State, script: &[u8]) -> State {
+fn changed(output: &mut Output, state: State, script: &[u8]) -> State {
     let mut s = state;
     let mut word = letter(0);
-    let mut i = 0;
-    while i < script.len() {
-        let byte = script[i];
+    for byte in script {
+        let byte = *byte;
         word = read(word, byte);
         if (byte == b' ') | (byte == b'\n') | (byte == b'.') {
-            s = done(s, word);
+            s = done(output, s, word);
         }
-        i += 1;
     }
     s
 }
@@ -74,8 +73,9 @@ fn kind(letter: u8) -> Kind {
 }
 
 // Three threads of CC-Synch in use, thread 2 without a request left.
-fn used(kind: Kind) -> State {
+fn used(output: &mut Output, kind: Kind) -> State {
     changed(
+        output,
         make::strange(Method::CcSynch, kind),
         b"h5 t1 #77 R10 T20 B30 L40 M50 z0
 r0=3 b0=1 l0=0 i0=2 u0=0 j0=1 x0=3 v0=4 r1=3 b1=2 l1=0 i1=0 u1=2 j1=3 x1=1 v1=1
@@ -86,16 +86,18 @@ K0=30 K1=31 K2=32 K16=32 K17=30 K18=31 K32=31.",
 }
 
 // Document 01's start.
-fn started(kind: Kind, n: u8, count: u8) -> State {
+fn started(output: &mut Output, kind: Kind, n: u8, count: u8) -> State {
     changed(
+        output,
         make::started(Method::CcSynch, kind, n, count),
         b"i0=1 i1=2 i2=3 i3=4 i4=5 i5=6 i6=7 i7=8 i8=9 i9=10 i10=11 i11=12 i12=13 i13=14 i14=15 i15=16.",
     )
 }
 
 // Two threads of DSM-Synch in use, thread 1 without a request left: nodes 0 and 1 are thread 0's, 2 and 3 thread 1's.
-fn used_dsm(kind: Kind) -> State {
+fn used_dsm(output: &mut Output, kind: Kind) -> State {
     changed(
+        output,
         make::strange(Method::DsmSynch, kind),
         b"n2 h1 m4 o2 t1 #77 R10 T20 B30 L40 M50 z0
 r0=3 b0=1 l0=0 O0=1 y0=1 J0=2 j0=3 v0=0 r1=1 b1=1 l1=0 O1=0 y1=2 J1=255 j1=255 v1=0
@@ -105,101 +107,106 @@ K0=30 K1=31 K2=32 K16=32.",
 }
 
 // The start of DSM-Synch.
-fn started_dsm(kind: Kind, n: u8, count: u8) -> State {
-    changed(make::started(Method::DsmSynch, kind, n, count), b"t255.")
+fn started_dsm(output: &mut Output, kind: Kind, n: u8, count: u8) -> State {
+    changed(
+        output,
+        make::started(Method::DsmSynch, kind, n, count),
+        b"t255.",
+    )
 }
 
 // A small letter is a state in use, Q, S and C one thread at its start, X, Y and Z sixteen with sixteen requests each; H and I are the like of q and C by DSM-Synch.
-fn base(letter: u8) -> State {
+fn base(output: &mut Output, letter: u8) -> State {
     let kind = kind(letter);
     match letter {
-        b'q' | b's' => changed(used(kind), b"m4 o2."),
-        b'c' => used(kind),
-        b'H' => used_dsm(kind),
-        b'I' => started_dsm(kind, 1, 0),
-        b'Q' | b'S' | b'C' => started(kind, 1, 0),
-        _ => started(kind, 16, 16),
+        b'q' | b's' => {
+            let state = used(output, kind);
+            changed(output, state, b"m4 o2.")
+        }
+        b'c' => used(output, kind),
+        b'H' => used_dsm(output, kind),
+        b'I' => started_dsm(output, kind, 1, 0),
+        b'Q' | b'S' | b'C' => started(output, kind, 1, 0),
+        _ => started(output, kind, 16, 16),
     }
 }
 
 // The base's letter stands first.
-pub(crate) fn made(script: &[u8]) -> State {
+pub(crate) fn made(output: &mut Output, script: &[u8]) -> State {
     if script.len() == 0 {
-        return base(b'q');
+        return base(output, b'q');
     }
-    changed(base(script[0]), script)
+    let state = base(output, script[0]);
+    changed(output, state, script)
 }
 
 // The cases of a script, each from the same state; @ is a schedule's entry other than the table's.
-fn cases(name: &[u8], script: &[u8], state: State, entry: u8) {
+fn cases(output: &mut Output, name: &[u8], script: &[u8], state: State, entry: u8) {
     let mut own = entry;
     let mut word = letter(0);
-    let mut i = 0;
-    while i < script.len() {
-        let byte = script[i];
+    for byte in script {
+        let byte = *byte;
         if word.field == b'@' {
             own = word.value;
         }
         if (byte == b',') | (byte == b';') | (byte == b'.') {
-            show::case(name, byte, word, make::set(state, word), own);
+            show::case(output, name, byte, word, make::set(state, word), own);
         }
         word = read(word, byte);
-        i += 1;
     }
 }
 
 // The place of a byte, or past the end.
 fn find(s: &[u8], byte: u8) -> usize {
-    let mut i = 0;
-    while i < s.len() {
+    for i in 0..s.len() {
         if s[i] == byte {
             return i;
         }
-        i += 1;
     }
     s.len()
 }
 
 // What a script shows: a run where it has a bar, else its cases.
-fn scripted(name: &[u8], script: &[u8], entry: u8) {
+fn scripted(output: &mut Output, name: &[u8], script: &[u8], entry: u8) {
     let bar = find(script, b'|');
     if bar < script.len() {
-        show::run_name(name);
-        show::ran(made(&script[0..bar]), made(script));
+        show::run_name(output, name);
+        let before = made(output, &script[0..bar]);
+        let after = made(output, script);
+        show::ran(output, before, after);
     } else {
-        cases(name, script, made(script), entry);
+        let state = made(output, script);
+        cases(output, name, script, state, entry);
     }
 }
 
 // The name ends at a colon, and the script begins after the space that follows it.
-fn row(row: &[u8], entry: u8) {
+fn row(output: &mut Output, row: &[u8], entry: u8) {
     let colon = find(row, b':');
     if colon < row.len() {
         let rest = &row[colon..];
         if rest.len() > 2 {
-            scripted(&row[0..colon], &rest[2..], entry);
+            scripted(output, &row[0..colon], &rest[2..], entry);
         }
     }
 }
 
-fn row_between(rows: &[u8], start: usize, end: usize, entry: u8) {
+fn row_between(output: &mut Output, rows: &[u8], start: usize, end: usize, entry: u8) {
     if start <= end {
         if end <= rows.len() {
-            row(&rows[start..end], entry);
+            row(output, &rows[start..end], entry);
         }
     }
 }
 
 // The rows of a table, for a schedule's entry.
-pub(crate) fn table(entry: u8, rows: &[u8]) {
+pub(crate) fn table(output: &mut Output, entry: u8, rows: &[u8]) {
     let mut start = 0;
-    let mut i = 0;
-    while i < rows.len() {
+    for i in 0..rows.len() {
         if rows[i] == b'\n' {
-            row_between(rows, start, i, entry);
+            row_between(output, rows, start, i, entry);
             start = i + 1;
         }
-        i += 1;
     }
-    row_between(rows, start, i, entry);
+    row_between(output, rows, start, rows.len(), entry);
 }
