@@ -1,8 +1,7 @@
 -- What the calls for an entry answer, in `enter` and in a run, by either method, one equation for each, makes the state after it, and in `enter` the outcome.
 -- Assumes what the modules' parameters say.
-use Rattle.std.proofs.Common.{◌≡◌, ℕ, ◌+◌, ◌-◌, ◌*◌, ◌<◌, ◌≤◌, Bool, true, false, cond, not, ◌&&◌, eqb, List, get_or, set, sym, refl, ap, ◌∙◌, mod-eq_of_lt, arith, le-leb}
+use Rattle.std.proofs.Common.{◌≡◌, ℕ, ◌+◌, ◌-◌, ◌*◌, ◌<◌, ◌≤◌, Bool, true, false, cond, not, ◌&&◌, eqb, List, get_or, set, sym, refl, ap, ◌∙◌, mod-eq_of_lt, arith}
 use lib.Seq.{set-get_or}
-use borrow.Author.Tests.{lt-leb}
 use Rattle.object.specs.declared.Object.{Object}
 use Rattle.object.specs.declared.Request.{Request}
 use Rattle.object.specs.declared.Answer.{Answer}
@@ -31,7 +30,7 @@ use Rattle.state.proofs.RangeFacts.{ThreadFits, state_fits, counts_iff}
 use Rattle.step.specs.declared.Stepped.{Stepped}
 use Rattle.step.specs.Entry.{zero_node, zero_slot, applied_at, more_of, plus, wrapped, named, line, request}
 use Rattle.step.specs.ByMethod.{points_to_by, node_by, behind_by, written_by, event_by, applied_by, effect_by, accesses_by, references_by, counts_after_by, entered_by, out_by}
-use Rattle.step.specs.Step.{refused, outcome_by, step_of}
+use Rattle.step.specs.Step.{refused, outcome_by}
 use Rattle.step.proofs.Outcome.{thread_fits, begun_few, goes_through_exactly}
 use Rattle.step.proofs.Rows.{row_points, row_accesses, row_writes_lem, row_event, HasNodes, row_leaves, goes_through, refused_out}
 
