@@ -1,6 +1,6 @@
 -- Each line of Algorithm 2 on numbers in range: what it leaves is in range again, but for the causes that `takes_out` names; and the node that it points to, or
 -- writes, is one in use or null. Assumes what the modules' parameters say.
-use Rattle.std.proofs.Common.{◌≡◌, ℕ, ◌+◌, ◌-◌, ◌*◌, ◌<◌, ◌≤◌, Bool, true, false, cond, not, ◌&&◌, ◌||◌, eqb, ltb, leb, sym, refl, subst, arith, le-ltb, ne_eqb, leb-false, leb-true}
+use Rattle.std.proofs.Common.{◌≡◌, ℕ, ◌+◌, ◌<◌, ◌≤◌, Bool, true, false, cond, not, ◌&&◌, ◌||◌, eqb, ltb, leb, sym, refl, subst, arith, le-ltb, ne_eqb, leb-false, leb-true}
 use mathlib.Core.Bool.{or-false, or-true, and-eq-true_iff}
 use borrow.Author.Tests.{lt-leb}
 use Rattle.object.specs.declared.Kind.{Kind}
@@ -15,11 +15,11 @@ use Rattle.machine.specs.declared.Node.{Node}
 use Rattle.machine.specs.declared.Thread.{Thread}
 use Rattle.machine.specs.declared.Effect.{Effect}
 use Rattle.machine.specs.Accesses.{to_null}
-use Rattle.machine.specs.Fields.{null, is_null}
+use Rattle.machine.specs.Fields.{is_null}
 use Rattle.machine.specs.Lines.{stands_at}
 use Rattle.machine.specs.Owners.{node_of}
 use Rattle.machine.specs.Sizes.{most_nodes}
-use Rattle.machine.specs.Threads.{goes, with_my, with_pred, with_tmp, with_served, with_line}
+use Rattle.machine.specs.Threads.{goes, with_pred, with_tmp, with_served}
 use Rattle.dsm_lines.specs.Lines.{Line, line_of, number, accesses, pointed, target, empties, L0, L1, L2, L3, L4, L5, L6, L7, L8, L9, L10, L11, L12, L13, L14, L15, L16, L17, L18, L19, L20, L21, L22, L23, L24, L25, L26, L27, L28}
 use Rattle.dsm_lines.proofs.Numbers.{number_of, number_most, agree}
 use Rattle.dsm_synch.specs.Effect.{keeps, writes, uses_empty, takes_out, executed}

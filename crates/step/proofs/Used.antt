@@ -5,7 +5,6 @@ use lib.ListN.{get_or-map}
 use Rattle.object.specs.declared.Kind.{Kind}
 use Rattle.object.specs.declared.Request.{Request}
 use Rattle.object.specs.declared.Answer.{Answer}
-use Rattle.object.specs.declared.Applied.{Applied}
 use Rattle.object.specs.Each.{every}
 use Rattle.machine.specs.declared.Method.{Method}
 use Rattle.machine.specs.declared.Method.TheVariants.{CcSynch, DsmSynch}
@@ -24,15 +23,14 @@ use Rattle.cc_synch.specs.Effect as ccEffect
 use Rattle.dsm_lines.specs.Lines as dsmLines
 use Rattle.dsm_lines.proofs.Numbers as dsmNumbers
 use Rattle.dsm_synch.specs.Effect as dsmEffect
-use Rattle.copies.specs.Remote.{Referred, referred_by}
+use Rattle.copies.specs.Remote.{referred_by}
 use Rattle.copies.proofs.References.{copies_stay}
 use Rattle.state.specs.declared.Slot.{Slot}
-use Rattle.state.specs.declared.Counts.{Counts}
 use Rattle.state.specs.declared.State.{State}
 use Rattle.state.specs.Range.{thread_in_range, rows_in_range, in_range_by}
 use Rattle.step.specs.declared.Stepped.{Stepped}
-use Rattle.step.specs.Entry.{zero_thread, zero_node, zero_slot, applied_at, more_of, plus, named, line, request}
-use Rattle.step.specs.ByMethod.{line_points, line_writes, line_accesses, line_event, line_done, line_misses, line_out, points_to_by, node_by, behind_by, written_by, event_by, applied_by, effect_by, accesses_by, references_by, counts_after_by, entered_by, misses_by}
+use Rattle.step.specs.Entry.{zero_thread, zero_node, zero_slot, applied_at, named, line, request}
+use Rattle.step.specs.ByMethod.{line_points, line_writes, line_accesses, line_event, line_done, line_misses, points_to_by, node_by, behind_by, written_by, event_by, applied_by, effect_by, accesses_by, references_by, entered_by, misses_by}
 use Rattle.step.specs.Step.{refused, goes_through_by, outcome_by, step_by}
 use Rattle.step.specs.Past.{of_the_other, used_thread, used_copies, used_state}
 use Rattle.step.proofs.Alike.{owner_decides}
