@@ -12,6 +12,6 @@ returns-clause-value c =
     let two = c.refer-two.ensures in
     let three = c.refer-three.ensures in
     let both =
-        two_referred a.method a.n a.thread.0 a.copies.now (to a.row.first) (to a.row.second ++ to a.row.third) (one.value, one.copies_after)
-        (two_referred a.method a.n a.thread.0 _ (to a.row.second) (to a.row.third) (two.value, two.copies_after) (three.value, three.copies_after)) in
+    two_referred a.method a.n a.thread.0 a.copies.now (to a.row.first) (to a.row.second ++ to a.row.third) (one.value, one.copies_after)
+    (two_referred a.method a.n a.thread.0 _ (to a.row.second) (to a.row.third) (two.value, two.copies_after) (three.value, three.copies_after)) in
     rw (all_made a.row a.node a.behind (sym c.only_first.ensures ∙ c.if-only_first.false)) both.0
