@@ -45,6 +45,13 @@ IN_FILES = [
     ("crates/dsm_invariant/proofs/**", "in_turn", "HasTurn"),
 ]
 
+# names of local values and of modules, and names that stand on a line alone where they are declared
+LOCAL = """a-after answer-fits behind-up-to below-n by-line-applied copyPlace does-row dsm-marked-runs example-answers example-null example-pages example-sizes
+examples-listed facts-off facts-on had-not here-21 in-ret knows-it last-served Leaves-none leaves-some no-capacity no-counter noSecond noThird none-behind
+not-now not-one of-2 of-3 place-held pred-first q-off q-on same-capacity same-h same-n second-version tail-fits was-out x_Fits y-fits""".split()
+MODULES = """ccBridge ccEffect ccLayers ccLines ccMeets ccNumbers ccRefusal ccTable ccTheorem dsmEffect dsmLayers dsmLines dsmLinesSaid dsmNumbers dsmRefusal
+dsmRows dsmTable dsmTheorem dsmThreads""".split()
+
 
 def code(text):
     return re.sub(r"--.*", "", text)
@@ -116,6 +123,9 @@ def main():
             both = any(seen[n] & seen[d] for d in definition)
             if n in old and n not in NAMED and (both or "lemma" in kinds[n]):
                 turned[n] = word + "_lem"
+    turned.update({n: snake(n) for n in LOCAL})
+    turned["x_Fits"], turned["example-pages"] = "x_fits", "example_pages_lem"
+    turned.update({n: n[0].upper() + n[1:] for n in MODULES})
     alone = collections.defaultdict(dict)
     for folder, n, new in IN_FILES:
         for path in glob.glob(folder, recursive=True):

@@ -24,14 +24,14 @@ pub marked_runs_lem : map (λ (m : Marked). ran m.file) marked_runs ≡ map (λ 
 unfolding judge_of file_reader head_reader start_reader limits_reader row_reader request_reader schedule_reader ruled_byte byte several field little_endian end low_first each_bytes bytes_of sum_of sixty_four entries_from meets_no_null marked_runs
 marked_runs_lem = refl
 
-pub dsm-marked-runs
+pub dsm_marked_runs
     : map (λ (m : dsm.Marked). ran (bytes_of m.fields)) dsm.marked_runs
     ≡ map (λ (m : dsm.Marked). record { refusal = 0; counts = m.counts; records = m.records }) dsm.marked_runs
 unfolding judge_of file_reader head_reader start_reader limits_reader row_reader request_reader schedule_reader ruled_byte byte several field little_endian end low_first each_bytes bytes_of sum_of entries_from meets_no_null dsm.marked_runs
-dsm-marked-runs = refl
+dsm_marked_runs = refl
 
 -- the 64-byte file in version 2: by CC-Synch as in version 1, and by DSM-Synch
-pub second-version
+pub second_version
     : map ran (sixty_five CcSynch ∷ sixty_five DsmSynch ∷ [])
     ≡ record { refusal = 0; counts = counted 2 2 0 0 3; records = served ∷ listed 0 1 value 5 0 1 0 has_returned 21 41 ∷ [] }
     ∷ record {
@@ -41,7 +41,7 @@ pub second-version
     }
     ∷ []
 unfolding judge_of file_reader head_reader start_reader limits_reader row_reader request_reader schedule_reader ruled_byte byte several field little_endian end low_first sum_of sixty_five entries_from meets_no_null
-second-version = refl
+second_version = refl
 
 -- the 64-byte file with 31 bytes lent; with 47 whether it performs its two requests or none
 pub thirteen : result_in 31 (judge_of sixty_four) ∷ result_in 47 (judge_of sixty_four) ∷ result_in 47 (judge_of (two_adds 4)) ∷ [] ≡ replicate 3 (refused_result 13)

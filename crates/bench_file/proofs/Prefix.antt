@@ -88,14 +88,14 @@ number_sees width = wider (omega arith) (chain (field_sees width) (λ bs p. done
 
 -- a reader that asks for one byte: `byte` reads it, `end` sees whether it is there
 module _ {A : Type 0} (r : Reader A) (same_Some : (b : ℕ) (bs more : List ℕ) → r (b ∷ bs ++ more) ≡ behind more (r (b ∷ bs)))
-    (Leaves-none : Leaves Any 0 (r [])) (leaves-some : (b : ℕ) (bs : List ℕ) → Leaves Any (length bs) (r (b ∷ bs))) where
+    (leaves_none : Leaves Any 0 (r [])) (leaves_some : (b : ℕ) (bs : List ℕ) → Leaves Any (length bs) (r (b ∷ bs))) where
   one_same : (bs more : List ℕ) → 1 ≤ length bs → r (bs ++ more) ≡ behind more (r bs)
   one_same [] more h = absurd (omega arith)
   one_same (b ∷ bs) more h = same_Some b bs more
 
   one_leaves : (bs : List ℕ) → Leaves Any (length bs - 1) (r bs)
-  one_leaves [] = Leaves-none
-  one_leaves (b ∷ bs) = leaves_less Any (r (b ∷ bs)) (omega arith) (leaves-some b bs)
+  one_leaves [] = leaves_none
+  one_leaves (b ∷ bs) = leaves_less Any (r (b ∷ bs)) (omega arith) (leaves_some b bs)
 
   one_sees : Sees Any 1 r
   one_sees = record { same = one_same; leaves = one_leaves }

@@ -67,8 +67,8 @@ module _ {old mid new a b : List ℕ} {at next last : ℕ} (first : Laid old at 
       by_order (length old) at
       (λ h.
       let none : fitting old at a ≡ [] = none_fits old at a (omega arith) in
-      let none-behind : fitting mid next b ≡ [] = none_fits mid next b (omega (arith, room_left)) in
-      rw (none-behind, none) (pasted_nothing mid next ∙ first.buffer ∙ ap (pasted old at) none))
+      let none_behind : fitting mid next b ≡ [] = none_fits mid next b (omega (arith, room_left)) in
+      rw (none_behind, none) (pasted_nothing mid next ∙ first.buffer ∙ ap (pasted old at) none))
       (λ h. pasted_then old at (fitting old at a) (fitting mid next b) first.buffer first.behind h)
 
   -- and then

@@ -154,17 +154,17 @@ module _ (f : Fields) (fits : InRange f) (s : State) (past : List Entry) (t : Th
 
   object_next : DataAfter (jobs_of f (e ∷ past)) answers_next after.object
   object_next =
-      let by-line-applied = applied_by s.kind s.capacity s.object (view_of s) t.0 l in
-      let does-row = subst (λ (a : Applied). Does s.n s.h (view_of s) (view_of after) t.0 l (open_request (asks f) (view_of s) t.0) a.answer) (sym applied_by_row) does_asked in
-      let kept = data_kept now.control now.object {v' = view_of after} {t = t.0} l does-row
+      let by_line_applied = applied_by s.kind s.capacity s.object (view_of s) t.0 l in
+      let does_row = subst (λ (a : Applied). Does s.n s.h (view_of s) (view_of after) t.0 l (open_request (asks f) (view_of s) t.0) a.answer) (sym applied_by_row) does_asked in
+      let kept = data_kept now.control now.object {v' = view_of after} {t = t.0} l does_row
       (state_fits CcSynch s now.sound.range).held now.sound.shape.items req_known in
       let jobs = ap (λ (b : Bool). grown b (jobs_of f past) (open_request (asks f) (view_of s) t.0)) (sym swaps_by_row) ∙ sym (jobs_next moved f now.chronicle.swaps) in
       let answers =
       ap (λ (a : Applied). grown (same_event (row s t).event Applies) now.answers a.answer) applied_by_row
       ∙ ap (λ (b : Bool). grown b now.answers (applied s t).answer) (sym applies_by_row) in
       subst (DataAfter (jobs_of f (e ∷ past)) answers_next) (ap (λ (a : Applied). a.object) applied_by_row)
-      (subst (λ (l : List Answer). DataAfter (jobs_of f (e ∷ past)) l by-line-applied.object) answers
-      (subst (λ (l : List Request). DataAfter l (grown (same_event (row s t).event Applies) now.answers by-line-applied.answer) by-line-applied.object) jobs kept))
+      (subst (λ (l : List Answer). DataAfter (jobs_of f (e ∷ past)) l by_line_applied.object) answers
+      (subst (λ (l : List Request). DataAfter l (grown (same_event (row s t).event Applies) now.answers by_line_applied.answer) by_line_applied.object) jobs kept))
 
   -- what is applied is the request at the next position
   asks_next : Is Applies e → (node s t).req ≡ Asked (get_or (jobs_of f past) now.ledger.a (Put 0))

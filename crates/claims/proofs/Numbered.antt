@@ -38,7 +38,7 @@ module _ (m : Method) (f : Fields) (c : Call) where
   open_yet : (e : Entry) (past : List Entry) → happened after_return (e ∷ past) ≡ false → does Returns c e past ≡ true → returned c past ≡ false
   open_yet e past none returns =
       let still : (Is Blank e → ⊥) → returned (call_of e past) past ≡ false = λ q.
-      by_test (returned (call_of e past) past) (λ had. absurd (false≢true (sym none ∙ rw (is_not e Blank q, had)))) (λ had-not. had-not) in
+      by_test (returned (call_of e past) past) (λ had. absurd (false≢true (sym none ∙ rw (is_not e Blank q, had)))) (λ had_not. had_not) in
       not_returned e past still c ((and-eq-true_iff (is_of c e past) (is Returns e)).0 returns).0
 
   abbrev HasReturned : List Entry → Type 0
@@ -53,4 +53,4 @@ module _ (m : Method) (f : Fields) (c : Call) where
       → ReturnsAt m f c (returned_at c (after (entries_by m f) j))
   returned_there j over so =
       at_number (entries_by m f) (does Returns c) HasReturned (ReturnsAt m f c) (λ so. false≢true so.1)
-      (λ e past not-now so. ((both_fail (after_return e past) (happened after_return past) so.0).1, rw not-now at so.1)) returns_here j (over, so)
+      (λ e past not_now so. ((both_fail (after_return e past) (happened after_return past) so.0).1, rw not_now at so.1)) returns_here j (over, so)

@@ -69,8 +69,8 @@ module _ (f : Fields) (fits : InRange f) where
   goes : (s : State) (past : List Entry) (t : ThreadId) → t.0 < f.head.n → length past < 32768 → NoNull CcSynch s t
       → Going CcSynch f s past × Layers f s past → step_of s t ≡ through (entered s t)
   goes s past t below short fine now =
-      let below-n : t.0 < s.n = omega (arith, now.0.n) in
-      one_step CcSynch s t now.0.method now.1.sound below-n (stays f fits s past t below-n now.0 now.1) (next_fits CcSynch s past t now.0.counted short)
+      let below_n : t.0 < s.n = omega (arith, now.0.n) in
+      one_step CcSynch s t now.0.method now.1.sound below_n (stays f fits s past t below_n now.0 now.1) (next_fits CcSynch s past t now.0.counted short)
 
   run_steps : (j : ℕ) → steps_of (start_by CcSynch f) (take j f.schedule) ≡ through (state_after CcSynch (start_by CcSynch f) (take j f.schedule))
   run_steps j =

@@ -97,11 +97,11 @@ module _ (m : Method) (n t : ℕ) where
   )
 
 -- where the accesses after the first are left out
-left_out : (noThird noSecond null : Bool) (rest : List Access) → (noThird ≡ true → noSecond ≡ true → rest ≡ [])
-    → cond (not noThird && null) [] rest ≡ cond (cond noThird noSecond null) [] rest
+left_out : (no_third no_second null : Bool) (rest : List Access) → (no_third ≡ true → no_second ≡ true → rest ≡ [])
+    → cond (not no_third && null) [] rest ≡ cond (cond no_third no_second null) [] rest
 left_out true true null rest none = none refl refl
 left_out true false null rest none = refl
-left_out false noSecond null rest none = refl
+left_out false no_second null rest none = refl
 
 -- a row's accesses: the first alone where the line stops there, else all three in turn
 module _ (row : Row) (node behind : NodeId) where

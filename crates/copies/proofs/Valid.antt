@@ -24,7 +24,7 @@ module _ (w t : ℕ) where
 
   bit_unheld : t < 16 → has_copy w t ≡ false → bit w t ≡ 0
   bit_unheld h e =
-      let not-one : bit w t ≡ 1 → ⊥ = eqb-false (bit w t) 1 (rw (lt-ltb t 16 h) at e) in
+      let not_one : bit w t ≡ 1 → ⊥ = eqb-false (bit w t) 1 (rw (lt-ltb t 16 h) at e) in
       omega arith
 
 same_held : (v w u : ℕ) → bit v u ≡ bit w u → has_copy v u ≡ has_copy w u

@@ -99,8 +99,8 @@ module _ (f : Fields) (fits : InRange f) where
   goes : (s : State) (past : List Entry) (t : ThreadId) → t.0 < f.head.n → length past < 32768 → NoNull DsmSynch s t
       → Going DsmSynch f s past × Layers f s past → step_of s t ≡ through (entered_by DsmSynch s t)
   goes s past t below short fine now =
-      let below-n : t.0 < s.n = omega (arith, now.0.n) in
-      one_step DsmSynch s t now.0.method now.1.sound below-n ((null_alone f fits s past t below-n now.0 now.1).alone ∙ fine)
+      let below_n : t.0 < s.n = omega (arith, now.0.n) in
+      one_step DsmSynch s t now.0.method now.1.sound below_n ((null_alone f fits s past t below_n now.0 now.1).alone ∙ fine)
       (next_fits DsmSynch s past t now.0.counted short)
 
   run_steps : (j : ℕ) → meets_no_null DsmSynch (start_by DsmSynch f) (take j f.schedule) ≡ true

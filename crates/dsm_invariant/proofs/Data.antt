@@ -44,7 +44,7 @@ use Rattle.dsm_invariant.specs.Data.{applied_by, calling, CallData, Data}
 use Rattle.dsm_invariant.proofs.Basics.{thread_told, implied}
 use Rattle.dsm_invariant.proofs.Places.{from, placed, only_at}
 use Rattle.dsm_invariant.proofs.Frame.{field_same}
-use Rattle.dsm_invariant.proofs.Threads.{chosen, last_line, by_last, pointed_at, points, at_below, my_home, room, serving, last as last-served}
+use Rattle.dsm_invariant.proofs.Threads.{chosen, last_line, by_last, pointed_at, points, at_below, my_home, room, serving, last as last_served}
 use Rattle.dsm_invariant.proofs.Events.{told}
 use Rattle.dsm_invariant.proofs.Notes.{notes, at_kept}
 
@@ -104,7 +104,7 @@ module _ {n h : ℕ} {v : View} {g : Ledger} (c : Control n h v g) {requests : �
         returns : {k : ℕ} → number l ≡ k → pointed_at (v.thread t) k ≡ (v.thread t).my.0
             → T (queued (stage_of (stands_at k))) → (first v t l).ret ≡ Answered (get_or answers (g.at t) Empty)
         returns {k} q home queue =
-            ap (λ (m : ℕ). (v.node m).ret) (points (v.thread t) l ∙ rw q home) ∙ (now.call t below).replied (rw (stands, q) queue) (last-served c l below stands last)
+            ap (λ (m : ℕ). (v.node m).ret) (points (v.thread t) l ∙ rw q home) ∙ (now.call t below).replied (rw (stands, q) queue) (last_served c l below stands last)
 
     -- so no line uses an empty one
     uses_none : uses_empty (first v t l) (number l) ≡ false
@@ -255,10 +255,10 @@ module _ {n h : ℕ} {v : View} {g : Ledger} (c : Control n h v g) {requests : �
 
   -- line 1 begins a call, whose request the object knows
   begin : {v' : View} {t : ℕ} (d : Runs v' t L1) → knows kind (requests t (v.thread t).begun) ≡ true → After d
-  begin {t} d knows-it =
+  begin {t} d knows_it =
       let next : (v.thread t).begun + 1 - 1 ≡ (v.thread t).begun = omega arith in
       data_after d (λ u below e q. field_same c d (λ (x : Node). x.req) refl _) (ret_kept d refl refl)
-      (rw (d.mine, next) (record { known = λ _. knows-it; asked = absurd; job = absurd; replied = absurd }))
+      (rw (d.mine, next) (record { known = λ _. knows_it; asked = absurd; job = absurd; replied = absurd }))
 
   -- line 6 writes the request into its thread's node, which no other thread has
   ask : {v' : View} {t : ℕ} (d : Runs v' t L6) → After d

@@ -20,7 +20,7 @@ use Rattle.invariant.specs.View.{View}
 use Rattle.dsm_invariant.specs.Stages.{Stage, out, wait, combine, leave, nowhere, stages, stage_of, queued}
 use Rattle.dsm_invariant.specs.Ledger.{Ledger, node_number, node_at}
 use Rattle.dsm_invariant.specs.View.{first, goal, emptied}
-use Rattle.dsm_invariant.specs.Control.{Pred, first as pred-first, after, preparing, Knows, Control, InQueue}
+use Rattle.dsm_invariant.specs.Control.{Pred, first as pred_first, after, preparing, Knows, Control, InQueue}
 use Rattle.dsm_invariant.proofs.Basics.{number_range}
 use Rattle.dsm_invariant.proofs.Places.{from, facts_at, queued_in, alone, prepared_home, prepared_apart, place_range, tmp_place, next_right}
 use Rattle.dsm_invariant.proofs.Notes.{ending}
@@ -156,7 +156,7 @@ module _ {n h : ℕ} {v : View} {g : Ledger} (c : Control n h v g) where
       go nowhere f q = absurd q
 
   pred_range : (i m : ℕ) → i < g.s → (m ≡ 255 → ⊥) → Pred g i m → m < 2 * n
-  pred_range i m low some (pred-first e p) = absurd (some p)
+  pred_range i m low some (pred_first e p) = absurd (some p)
   pred_range i m low some (after j e p) = rw p (place_range c j (omega arith))
 
 -- the node that thread t's line writes, if it writes one, is one of the 2n

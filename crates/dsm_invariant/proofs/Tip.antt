@@ -99,9 +99,9 @@ module _ {n h : ℕ} {v v' : View} {g : Ledger} {t : ℕ} {l : Line} {request : 
   ahead_after u below e =
       by_equal u t
       (λ same.
-      let here-21 : (v'.thread t).line ≡ 21 = rw same at e in
-      let q = to_21 here-21 in
-      let two = by_line (λ (l : Line). Does n h v v' t l request answer → suc (suc g.k) < g.s) l q (λ run. sees_two c run here-21) run in
+      let here_21 : (v'.thread t).line ≡ 21 = rw same at e in
+      let q = to_21 here_21 in
+      let two = by_line (λ (l : Line). Does n h v v' t l request answer → suc (suc g.k) < g.s) l q (λ run. sees_two c run here_21) run in
       omega (arith, still (rw q) (λ z. omega arith), note.s))
       (λ apart.
       let before : (v.thread u).line ≡ 21 = rw (run.others u apart) at e in

@@ -193,10 +193,10 @@ module _ {n h : ℕ} {v v' : View} {g : Ledger} {t : ℕ} {l : Line} {request : 
         → (test ≡ true → (x : Node) → Mine g x → ThreadFacts n h g t (goes (v.thread t) on) x)
         → (test ≡ false → (x : Node) → Mine g x → ThreadFacts n h g t (goes (v.thread t) off) x)
         → Control n h v' g
-    forks test on off after q same q-on q-off facts-on facts-off =
+    forks test on off after q same q_on q_off facts_on facts_off =
         by_test test
-        (λ e. moves on (after ∙ ap (λ z. goes (v.thread t) (cond z on off)) e) q same q-on (facts-on e))
-        (λ e. moves off (after ∙ ap (λ z. goes (v.thread t) (cond z on off)) e) q same q-off (facts-off e))
+        (λ e. moves on (after ∙ ap (λ z. goes (v.thread t) (cond z on off)) e) q same q_on (facts_on e))
+        (λ e. moves off (after ∙ ap (λ z. goes (v.thread t) (cond z on off)) e) q same q_off (facts_off e))
 
   -- in the turn: the node of position j is written, and counts move
   module _ (line : ℕ) {tmp : NodeId}

@@ -143,10 +143,10 @@ module _ (Paid : Bool → ℕ → ℕ → Type 0) {n h : ℕ} {x x' : Seen} {p p
           → Ended n x' (e ∷ past) (turn_of (thread_id t) (e ∷ past)) × (served_in (turn_of (thread_id t) (e ∷ past)) (e ∷ past) ≡ x'.counter t)
       left_turn f =
           rw (m.counter f) (by_event e TurnEnds (turn_ends past m turns) λ q.
-          let was-out = (goes m).left f q in
+          let was_out = (goes m).left f q in
           let o = calls.open_call t m.below (omega arith) in
-          let turn = turn_kept past m t (λ _. was-out.1) in
-          (rw turn (ended_kept past m _ (o.ended was-out.0)), served_then turn ∙ frozen past m turns _ (o.ended was-out.0) ∙ o.served was-out.0))
+          let turn = turn_kept past m t (λ _. was_out.1) in
+          (rw turn (ended_kept past m _ (o.ended was_out.0)), served_then turn ∙ frozen past m turns _ (o.ended was_out.0) ∙ o.served was_out.0))
 
   open_kept : (u : ℕ) → u < n → 0 < x'.phase u → OpenNow u
   open_kept u below z = by_equal u t (λ q. rw q (own_open (rw q at z))) (λ q. other_open u below q z)
@@ -195,13 +195,13 @@ module _ (Paid : Bool → ℕ → ℕ → Type 0) {n h : ℕ} {x x' : Seen} {p p
 
   served_kept : (u : ℕ) (w : Serving) → u < n → waiting ≤ x'.phase u → p'.at u < p'.a → ServedNow u (p'.at u) w
   served_kept u w below z y =
-      let a-after = m.notes.a in
-      let apart : u ≡ t → Is Swaps e → ⊥ = λ q o. omega (arith, m.notes.at_swap o, rw q at y, rw o at a-after, m.order) in
+      let a_after = m.notes.a in
+      let apart : u ≡ t → Is Swaps e → ⊥ = λ q o. omega (arith, m.notes.at_swap o, rw q at y, rw o at a_after, m.order) in
       let here : p'.at u ≡ p.at u = m.notes.at_kept u below apart in
       rw here (by_order (p.at u) p.a (still_served u w below apart z) λ high.
       by_event e Applies
-      (λ q. let is : p.at u ≡ p.a = omega (arith, rw q at a-after) in rw is (now_served u w below q z is))
-      (λ q. absurd (omega (arith, rw (is_not e Applies q) at a-after))))
+      (λ q. let is : p.at u ≡ p.a = omega (arith, rw q at a_after) in rw is (now_served u w below q z is))
+      (λ q. absurd (omega (arith, rw (is_not e Applies q) at a_after))))
 
   -- a returned call: no entry is of it any more
   not_of_settled : (c : Call) → Settled Paid n x p past c → is_of c e past ≡ false
@@ -313,7 +313,7 @@ module _ (Paid : Bool → ℕ → ℕ → Type 0) {n h : ℕ} {x x' : Seen} {p p
       (λ now.
       let told = does_told e past Returns c now in
       rw (told.0 ∙ of_last m swaps, begun_same told.1) (returned_now told.1))
-      (λ not-now. still_settled c (calls.settled c (rw not-now at z)))
+      (λ not_now. still_settled c (calls.settled c (rw not_now at z)))
 
   pub calls_kept : Calls Paid n x' p' cost' (e ∷ past)
   calls_kept = record { fresh = fresh_kept; open_call = open_kept; served = served_kept; settled = settled_kept }

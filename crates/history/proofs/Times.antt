@@ -64,11 +64,11 @@ by_numbers c other (e ∷ past) short begun z =
     let begins = (does_told e past CallBegins other now).1 in
     let before : returned_at c past < length past = rw (now, neither e CallBegins Returns (λ q. omega arith) begins (is_of c e past)) at z in
     rw (now, (number_some (does Returns c) past (omega arith)).0))
-    (λ not-now.
-    let old : began_at other past < length past = (number_some (does CallBegins other) past (omega (arith, rw not-now at begun))).1 in
+    (λ not_now.
+    let old : began_at other past < length past = (number_some (does CallBegins other) past (omega (arith, rw not_now at begun))).1 in
     by_test (does Returns c e past)
-    (λ returns. absurd (omega (arith, rw (not-now, returns) at z)))
-    (λ no_return. rw (by_numbers c other past (omega arith) old (rw (not-now, no_return) at z), or-true)))
+    (λ returns. absurd (omega (arith, rw (not_now, returns) at z)))
+    (λ no_return. rw (by_numbers c other past (omega arith) old (rw (not_now, no_return) at z), or-true)))
 
 module _ {n h : ℕ} {x x' : Seen} {p p' : Positions} {t : ℕ} {e : Entry} {past : List Entry} (m : Moves n h x x' p p' t e) (swaps : SwapOrder n x p past)
     (still : (Is Blank e → ⊥) → returned (call_of e past) past ≡ false) (times : Times n x p past) where
@@ -88,10 +88,10 @@ module _ {n h : ℕ} {x x' : Seen} {p p' : Positions} {t : ℕ} {e : Entry} {pas
 
   began_kept : (c : Call) → c.thread.0 < n → c.request < x'.begun c.thread.0 → began_at c (e ∷ past) < suc (length past)
   began_kept c below begun =
-      by_test (does CallBegins c e past) (λ now. rw now (omega arith)) λ not-now.
-      rw not-now
+      by_test (does CallBegins c e past) (λ now. rw now (omega arith)) λ not_now.
+      rw not_now
       (by_order c.request (x.begun c.thread.0) (λ old. omega (arith, times.began c below old))
-      (λ new. absurd (false≢true (sym not-now ∙ new_begins c new begun))))
+      (λ new. absurd (false≢true (sym not_now ∙ new_begins c new begun))))
 
   -- a call that had returned has, and one that no longer is its thread's open call returns with this entry
   still_returned : (c : Call) → returned c past ≡ true → returned c (e ∷ past) ≡ true
@@ -148,7 +148,7 @@ module _ {n h : ℕ} {x x' : Seen} {p p' : Positions} {t : ℕ} {e : Entry} {pas
       began = rw (no_begin, no_swap) o.began;
       done = rw no_swap (omega (arith, o.done));
       returned = λ z.
-          by_test (does Returns c e past) (λ now. rw (now, no_swap) o.done) (λ not-now. rw (not-now, no_swap) (o.returned (rw not-now at z)));
+          by_test (does Returns c e past) (λ now. rw (now, no_swap) o.done) (λ not_now. rw (not_now, no_swap) (o.returned (rw not_now at z)));
     }
 
   -- and of the call that does it now
@@ -196,7 +196,7 @@ module _ {n h : ℕ} {x x' : Seen} {p p' : Positions} {t : ℕ} {e : Entry} {pas
         numbers =
             by_test (does CallBegins other e past)
             (λ now. rw (same.number Returns, now) (number_below (does Returns c) past old))
-            (λ not-now. rw (same.number Returns, not-now) (less not-now));
+            (λ not_now. rw (same.number Returns, not_now) (less not_now));
       }
 
   ordered_kept : (c other : Call) → precedes c other (e ∷ past) ≡ true → Ordered (e ∷ past) c other
@@ -205,7 +205,7 @@ module _ {n h : ℕ} {x x' : Seen} {p p' : Positions} {t : ℕ} {e : Entry} {pas
       (λ now.
       let both = (and-eq-true_iff (does CallBegins other e past) (returned c past)).0 now in
       still_ordered c other both.1 (λ no. absurd (false≢true (sym no ∙ both.0))))
-      (λ not-now. let o = times.ordered c other (rw not-now at z) in still_ordered c other o.returned (λ no. o.numbers))
+      (λ not_now. let o = times.ordered c other (rw not_now at z) in still_ordered c other o.returned (λ no. o.numbers))
 
   pub times_kept : Times n x' p' (e ∷ past)
   times_kept = record { began = began_kept; closed = closed_kept; ordered = ordered_kept; swapped = swapped_kept; in_time = in_time_kept }

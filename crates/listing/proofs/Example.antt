@@ -17,7 +17,7 @@ use Rattle.cells.specs.Promise.{refusal_line}
 use Rattle.listing.specs.Examples.{example_listings}
 use Rattle.listing.specs.Listing.{head_line, record_line, listing_of}
 
-pub examples-listed
+pub examples_listed
     : map (λ (file : List ℕ). listing_of (judge_of file))
     (sixty_four
     ∷ two_adds 20
@@ -33,4 +33,4 @@ pub examples-listed
     ∷ [])
     ≡ example_listings
 unfolding judge_of file_reader head_reader start_reader limits_reader row_reader request_reader schedule_reader ruled_byte byte several field little_endian end low_first each_bytes bytes_of sixty_four sixty_five entries_from meets_no_null digits numbered record_cells refusal_line head_line record_line listing_of example_listings
-examples-listed = refl
+examples_listed = refl

@@ -11,15 +11,15 @@ use Rattle.machine.specs.declared.Row.{Row}
 use Rattle.machine.specs.declared.Effect.{Effect}
 use Rattle.machine.specs.Fields.{null}
 use Rattle.cc_lines.specs.Lines as cc
-use Rattle.cc_synch.specs.Effect as ccEffect
+use Rattle.cc_synch.specs.Effect as CcEffect
 use Rattle.dsm_lines.specs.Lines as dsm
-use Rattle.dsm_lines.specs.Rows as dsmRows
-use Rattle.dsm_synch.specs.Effect as dsmEffect
+use Rattle.dsm_lines.specs.Rows as DsmRows
+use Rattle.dsm_synch.specs.Effect as DsmEffect
 
 -- the row of a line by its number; 0 is a blank, and past the last printed line there is none
 abbrev pub row_by : Method → ℕ → Row
 row_by CcSynch k = cc.row_of (cc.line_of k)
-row_by DsmSynch k = dsmRows.row_of (dsm.line_of k)
+row_by DsmSynch k = DsmRows.row_of (dsm.line_of k)
 
 -- the node behind that a line may look at, from the next of the one that it points to: CC-Synch looks at none, null
 abbrev pub behind_by : Method → NodeId → NodeId
@@ -28,8 +28,8 @@ behind_by DsmSynch next = next
 
 -- what the next line of thread t, th, does; x is the node that it points to, y the one behind it, which CC-Synch does not look at
 abbrev pub effect_by : Method → ℕ → Thread → Node → Node → NodeId → ℕ → Request → Answer → Effect
-effect_by CcSynch t th x y tail h request answer = ccEffect.effect_of th x tail h request answer
-effect_by DsmSynch t th x y tail h request answer = dsmEffect.effect_of t th x y tail h request answer
+effect_by CcSynch t th x y tail h request answer = CcEffect.effect_of th x tail h request answer
+effect_by DsmSynch t th x y tail h request answer = DsmEffect.effect_of t th x y tail h request answer
 
 -- the node that a Swap assigns to its call: in CC-Synch the one that it gives, Tail's, in DSM-Synch the one that it puts in, myNode
 abbrev pub assigned_by : Method → NodeId → NodeId → NodeId

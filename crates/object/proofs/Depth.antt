@@ -48,13 +48,13 @@ module _ (capacity : ℕ) where
     step_books Stack (Add v) q k = absurd k
     step_books Counter request q k = absurd (q refl)
 
-  module _ (kind : Kind) (no-counter : kind ≡ Counter → ⊥) where
+  module _ (kind : Kind) (no_counter : kind ≡ Counter → ⊥) where
     depths_from : (p : Plain) → length p.values ≤ capacity → (requests : List Request) → Each (λ (r : Request). T (knows kind r)) requests
         → DepthsFrom capacity (length p.values) (answers_from kind capacity p requests)
     unfolding answers_from
     depths_from p most [] e = tt
     depths_from p most (request ∷ requests) e =
-        let b = step_books p most kind request no-counter e.0 in
+        let b = step_books p most kind request no_counter e.0 in
         let after = (plain_step kind capacity request p).after in
         b.next (answers_from kind capacity after requests) (depths_from after b.fits requests e.1)
 

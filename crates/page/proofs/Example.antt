@@ -19,7 +19,7 @@ use Rattle.page.specs.Pages.{page_row, head_row, pages_from, pages_of, page_text
 use Rattle.page.specs.Promise.{page_answer, page_buffer}
 
 -- printed into a buffer that has just as many bytes
-pub example-pages
+pub example_pages_lem
     : page_buffer (replicate 168 0) (judge_of sixty_four)
     ∷ page_buffer (replicate 112 0) (judge_of (two_adds 20))
     ∷ page_buffer (replicate 112 0) (judge_of (two_adds 5))
@@ -32,29 +32,29 @@ pub example-pages
     ∷ []
     ≡ example_pages
 unfolding judge_of file_reader head_reader start_reader limits_reader row_reader request_reader schedule_reader ruled_byte byte several field little_endian end low_first each_bytes bytes_of sixty_four entries_from meets_no_null digits zip_with row_text page_row head_row pages_from page_text pages_text indexed example_pages
-example-pages = refl
+example_pages_lem = refl
 
 -- two requests stand in the file, but none was performed: the head row alone is 56 bytes, and one byte less is 13; a refused file has its own number
-pub example-answers
+pub example_answers
     : page_answer 56 (judge_of (two_adds 4)) ∷ page_answer 55 (judge_of (two_adds 4)) ∷ page_answer 111 (judge_of (two_adds 5)) ∷ page_answer 0 (judge_of []) ∷ []
     ≡ record { refusal = 0; length = 56 } ∷ refused_as 13 ∷ refused_as 13 ∷ refused_as 1 ∷ []
 unfolding judge_of file_reader head_reader start_reader limits_reader row_reader request_reader schedule_reader ruled_byte byte several field little_endian end low_first each_bytes bytes_of entries_from meets_no_null digits zip_with row_text page_row head_row pages_from page_text pages_text indexed
-example-answers = refl
+example_answers = refl
 
 -- a run whose last entry meets null is 14 with no byte lent and with enough; without that entry no byte lent is 13
-pub example-null
+pub example_null
     : page_answer 0 (judge_of (bytes_of late_line27)) ∷ page_answer 14616 (judge_of (bytes_of late_line27)) ∷ page_answer 0 (judge_of (bytes_of (cut 105 late_line27))) ∷ []
     ≡ refused_as 14 ∷ refused_as 14 ∷ refused_as 13 ∷ []
 unfolding judge_of file_reader head_reader start_reader limits_reader row_reader request_reader schedule_reader ruled_byte byte several field little_endian end low_first each_bytes bytes_of entries_from meets_no_null digits zip_with row_text page_row head_row pages_from page_text pages_text indexed
-example-null = refl
+example_null = refl
 
 pub widest_row_lem : page_row widest ≡ widest_row
 unfolding digits zip_with row_text page_row widest_row
 widest_row_lem = refl
 
 -- 0, 1, 57, 58, 59, 116, 117 and 256 records
-pub example-sizes
+pub example_sizes
     : map (λ (count : ℕ). map (length {A = ℕ}) (pages_of (replicate count 0))) (0 ∷ 1 ∷ 57 ∷ 58 ∷ 59 ∷ 116 ∷ 117 ∷ 256 ∷ [])
     ≡ (0 ∷ []) ∷ (1 ∷ []) ∷ (57 ∷ []) ∷ (58 ∷ []) ∷ (58 ∷ 1 ∷ []) ∷ (58 ∷ 58 ∷ []) ∷ (58 ∷ 58 ∷ 1 ∷ []) ∷ (58 ∷ 58 ∷ 58 ∷ 58 ∷ 24 ∷ []) ∷ []
 unfolding pages_from
-example-sizes = refl
+example_sizes = refl

@@ -22,12 +22,12 @@ use Rattle.machine.specs.declared.RetVal.TheVariants.{Answered}
 use Rattle.machine.specs.Accesses.{Access}
 use Rattle.machine.specs.Methods.{last_line}
 use Rattle.machine.specs.Sizes.{most_calls, most_nodes}
-use Rattle.cc_lines.specs.Lines as ccLines
-use Rattle.cc_lines.proofs.Numbers as ccNumbers
-use Rattle.cc_synch.specs.Effect as ccEffect
-use Rattle.cc_synch.proofs.Refusal as ccRefusal
-use Rattle.dsm_lines.specs.Lines as dsmLines
-use Rattle.dsm_lines.proofs.Numbers as dsmNumbers
+use Rattle.cc_lines.specs.Lines as CcLines
+use Rattle.cc_lines.proofs.Numbers as CcNumbers
+use Rattle.cc_synch.specs.Effect as CcEffect
+use Rattle.cc_synch.proofs.Refusal as CcRefusal
+use Rattle.dsm_lines.specs.Lines as DsmLines
+use Rattle.dsm_lines.proofs.Numbers as DsmNumbers
 use Rattle.methods.specs.Methods.{spin_line, spin_node}
 use Rattle.state.specs.declared.State.{State}
 use Rattle.state.proofs.RangeFacts.{ThreadFits, state_fits, nodes_held}
@@ -38,8 +38,8 @@ use Rattle.step.specs.ByMethod.{points_to_by, node_by, event_by, applied_by, eff
 use Rattle.step.proofs.Outcome.{thread_fits, runs_line, target_in_range}
 use Rattle.step.proofs.Soundness.{Sound}
 use Rattle.invariant.specs.View.{view_of}
-use Rattle.invariant.proofs.Bridge as ccBridge
-use Rattle.dsm_invariant.proofs.Threads as dsmThreads
+use Rattle.invariant.proofs.Bridge as CcBridge
+use Rattle.dsm_invariant.proofs.Threads as DsmThreads
 use Rattle.history.specs.Entries.{Entry, is, Is, how_many, remote_in}
 use Rattle.history.specs.Copies.{remote_marks}
 use Rattle.history.specs.Terms.{Serving, servings}
@@ -50,25 +50,25 @@ use Rattle.claims.specs.Claims.{ClaimedBy}
 use Rattle.claims.proofs.Chronicle.{Chronicle}
 use Rattle.claims.proofs.Chronicled.{Chronicled}
 use Rattle.claims.proofs.Counted.{remote_ones}
-use Rattle.claims.proofs.Layers as ccLayers
-use Rattle.claims.proofs.Meets as ccMeets
+use Rattle.claims.proofs.Layers as CcLayers
+use Rattle.claims.proofs.Meets as CcMeets
 use Rattle.claims.proofs.Parts.{claim}
 use Rattle.claims.proofs.Room.{requests_few, swaps_few}
 use Rattle.claims.proofs.Run.{Going, going_start, going_next}
 use Rattle.claims.proofs.Start.{row_few}
 use Rattle.claims.proofs.Telling.{Tells, entry_tells, tells_of, dsm_entry_tells, dsm_tells_of}
-use Rattle.claims.proofs.Theorem as ccTheorem
-use Rattle.dsm_claims.proofs.Layers as dsmLayers
-use Rattle.dsm_claims.proofs.Theorem as dsmTheorem
+use Rattle.claims.proofs.Theorem as CcTheorem
+use Rattle.dsm_claims.proofs.Layers as DsmLayers
+use Rattle.dsm_claims.proofs.Theorem as DsmTheorem
 
 -- the layers of a method
 abbrev pub Layered : Method → Fields → State → List Entry → Type 0
-Layered CcSynch f s past = ccLayers.Layers f s past
-Layered DsmSynch f s past = dsmLayers.Layers f s past
+Layered CcSynch f s past = CcLayers.Layers f s past
+Layered DsmSynch f s past = DsmLayers.Layers f s past
 
 abbrev Paid : Method → Bool → ℕ → ℕ → Type 0
-Paid CcSynch = ccLayers.Paid
-Paid DsmSynch = dsmLayers.Paid
+Paid CcSynch = CcLayers.Paid
+Paid DsmSynch = DsmLayers.Paid
 
 -- a state of a file's run, with the entries so far: all that its method keeps
 pub record Standing (m : Method) (f : Fields) (s : State) (past : List Entry) : Type 0 where
@@ -76,8 +76,8 @@ pub record Standing (m : Method) (f : Fields) (s : State) (past : List Entry) : 
   pub layers : Layered m f s past
 
 chronicled : (m : Method) (f : Fields) (s : State) (past : List Entry) → Standing m f s past → Chronicled (Paid m) m f s past
-chronicled CcSynch f s past now = ccLayers.chronicled f s past now.going now.layers
-chronicled DsmSynch f s past now = dsmTheorem.chronicled f s past now.going now.layers
+chronicled CcSynch f s past now = CcLayers.chronicled f s past now.going now.layers
+chronicled DsmSynch f s past now = DsmTheorem.chronicled f s past now.going now.layers
 
 -- an entry makes as many remote references as the state counts
 pub remote_of_lem : (m : Method) (s : State) (t : ThreadId) → (references_by m s t).remote ≡ remote_in (entry_by m s t).remote
@@ -85,8 +85,8 @@ remote_of_lem m s t = sym (remote_ones m s.n t.0 s.copies (accesses_by m s t))
 
 -- the fresh machine has it
 layers_start : (m : Method) (f : Fields) → InRange f → Layered m f (start_by m f) []
-layers_start CcSynch f fits = ccTheorem.layers_start f fits
-layers_start DsmSynch f fits = dsmTheorem.layers_start f fits
+layers_start CcSynch f fits = CcTheorem.layers_start f fits
+layers_start DsmSynch f fits = DsmTheorem.layers_start f fits
 
 pub standing_start : (m : Method) (f : Fields) → InRange f → Standing m f (start_by m f) []
 standing_start m f fits = record { going = going_start m f; layers = layers_start m f fits }
@@ -152,14 +152,14 @@ module _ (f : Fields) (fits : InRange f) (s : State) (past : List Entry) (t : Th
 
   -- null is the only cause of 14
   pub null_alone : (m : Method) → Standing m f s past → out_by m s t ≡ null_met_by m s t
-  null_alone CcSynch now = ccLayers.stays f fits s past t below now.going now.layers
-  null_alone DsmSynch now = (dsmLayers.null_alone f fits s past t below now.going now.layers).alone
+  null_alone CcSynch now = CcLayers.stays f fits s past t below now.going now.layers
+  null_alone DsmSynch now = (DsmLayers.null_alone f fits s past t below now.going now.layers).alone
 
   -- a line of CC-Synch needs no test: what it does, in 8 bits, is what `run_line` answers, since none is refused and no number wraps
   abbrev pub Untested : Method → Type 0
   Untested CcSynch = (request : Request) (answer : Answer)
-      → ccEffect.wrapped (ccEffect.executed (named s t) (node_by CcSynch s t) s.tail s.h request answer (ccLines.line_of (line s t)))
-      ≡ ccEffect.effect_of (named s t) (node_by CcSynch s t) s.tail s.h request answer
+      → CcEffect.wrapped (CcEffect.executed (named s t) (node_by CcSynch s t) s.tail s.h request answer (CcLines.line_of (line s t)))
+      ≡ CcEffect.effect_of (named s t) (node_by CcSynch s t) s.tail s.h request answer
   Untested DsmSynch = Unit
 
   pub untested : (m : Method) → Standing m f s past → Untested m
@@ -168,14 +168,14 @@ module _ (f : Fields) (fits : InRange f) (s : State) (past : List Entry) (t : Th
       let sound = now.layers.sound in
       let th = thread_fits CcSynch s t sound.shape sound.range below in
       let limit : s.h < 256 = omega (arith, now.going.h, fits.head.h) in
-      ccRefusal.unwrapped (named s t) (node_by CcSynch s t) s.tail s.h request answer (line s t) stays (omega (arith, th.few)) (omega (arith, th.few, th.counted)) limit (omega (arith, th.served))
-      ∙ sym (ccRefusal.goes_ahead (named s t) (node_by CcSynch s t) s.tail s.h request answer stays)
+      CcRefusal.unwrapped (named s t) (node_by CcSynch s t) s.tail s.h request answer (line s t) stays (omega (arith, th.few)) (omega (arith, th.few, th.counted)) limit (omega (arith, th.served))
+      ∙ sym (CcRefusal.goes_ahead (named s t) (node_by CcSynch s t) s.tail s.h request answer stays)
   untested DsmSynch now = tt
 
   -- every entry keeps it that meets no null
   layers_next : (m : Method) → Standing m f s past → length past < 32768 → null_met_by m s t ≡ false → Layered m f (entered_by m s t) (entry_by m s t ∷ past)
-  layers_next CcSynch now short fine = ccLayers.layers_next f fits s past t below now.going now.layers short
-  layers_next DsmSynch now short fine = dsmLayers.layers_next f fits s past t below now.going now.layers fine short
+  layers_next CcSynch now short fine = CcLayers.layers_next f fits s past t below now.going now.layers short
+  layers_next DsmSynch now short fine = DsmLayers.layers_next f fits s past t below now.going now.layers fine short
 
   pub standing_next : (m : Method) → Standing m f s past → length past < 32768 → null_met_by m s t ≡ false → Standing m f (entered_by m s t) (entry_by m s t ∷ past)
   standing_next m now short fine = record { going = going_next m f s past t short now.going; layers = layers_next m now short fine }
@@ -208,32 +208,32 @@ module _ (f : Fields) (fits : InRange f) (s : State) (past : List Entry) (t : Th
 
   pub next_of : (m : Method) → Standing m f s past → length past < 32768 → null_met_by m s t ≡ false → Next m f s past t
   next_of CcSynch now short fine =
-      let l = ccLines.line_of (line s t) in
+      let l = CcLines.line_of (line s t) in
       let sound = now.layers.sound in
       let small = state_fits CcSynch s sound.range in
-      next_from CcSynch (ccLayers.moved f fits s past t below now.going now.layers) now.layers.chronicle (layers_next CcSynch now short fine).chronicle
-      (omega (arith, now.going.n)) (ap (λ (th : Thread). th.begun) (ccBridge.does_of s t sound below).mine) (tells_of s t)
+      next_from CcSynch (CcLayers.moved f fits s past t below now.going now.layers) now.layers.chronicle (layers_next CcSynch now short fine).chronicle
+      (omega (arith, now.going.n)) (ap (λ (th : Thread). th.begun) (CcBridge.does_of s t sound below).mine) (tells_of s t)
       (λ q. omega (arith, small.tail, small.small))
       (λ q. omega (arith, target_in_range s t sound.shape sound.range below, small.small))
       (entry_tells s t).answers
-      (λ q. ccNumbers.by_line (λ (l : ccLines.Line). ccLines.accesses_by (named s t) l ≡ []) l ((ccMeets.numbers l (cc.node s t)).blank q) refl)
+      (λ q. CcNumbers.by_line (λ (l : CcLines.Line). CcLines.accesses_by (named s t) l ≡ []) l ((CcMeets.numbers l (cc.node s t)).blank q) refl)
   next_of DsmSynch now short fine =
       let l = dsm.runs s t in
       let going = now.going in
       let layers = now.layers in
       let few : s.n ≤ 16 = omega (arith, going.n, fits.head.n) in
-      let tells = dsmLayers.tells f fits s past t below going layers fine in
-      let here : (event : Event) (k : ℕ) → is event (entry_by DsmSynch s t) ≡ eqb (dsmLines.number l) k → Is event (entry_by DsmSynch s t) → dsmLines.number l ≡ k =
-      λ event k e. dsmLayers.here f fits s past t below going layers fine event e in
-      let does = dsmLayers.does f fits s past t below going layers fine in
-      let written : 2 < dsmLines.number l → (dsm.written s t).0 < 2 * s.n = dsmThreads.goal_range layers.control l below does.stands does.fine in
-      next_from DsmSynch (dsmLayers.moved f fits s past t below going layers fine) layers.chronicle (layers_next DsmSynch now short fine).chronicle
+      let tells = DsmLayers.tells f fits s past t below going layers fine in
+      let here : (event : Event) (k : ℕ) → is event (entry_by DsmSynch s t) ≡ eqb (DsmLines.number l) k → Is event (entry_by DsmSynch s t) → DsmLines.number l ≡ k =
+      λ event k e. DsmLayers.here f fits s past t below going layers fine event e in
+      let does = DsmLayers.does f fits s past t below going layers fine in
+      let written : 2 < DsmLines.number l → (dsm.written s t).0 < 2 * s.n = DsmThreads.goal_range layers.control l below does.stands does.fine in
+      next_from DsmSynch (DsmLayers.moved f fits s past t below going layers fine) layers.chronicle (layers_next DsmSynch now short fine).chronicle
       (omega (arith, going.n)) (ap (λ (th : Thread). th.begun) does.mine) (dsm_tells_of s t)
       (λ q. let at = here Swaps 7 tells.swaps q in
-      let mine : (dsm.written s t).0 ≡ (named s t).my.0 = dsmNumbers.by_line (λ (l : dsmLines.Line). (dsmLines.target (named s t) (dsm.node s t) l).0 ≡ (named s t).my.0) l at refl in
+      let mine : (dsm.written s t).0 ≡ (named s t).my.0 = DsmNumbers.by_line (λ (l : DsmLines.Line). (DsmLines.target (named s t) (dsm.node s t) l).0 ≡ (named s t).my.0) l at refl in
       omega (arith, written (omega (arith, at))))
       (λ q. let at = here Applies 16 tells.applies q in
-      let same : (dsm.written s t).0 ≡ (dsm.points_to s t).0 = dsmNumbers.by_line (λ (l : dsmLines.Line). (dsmLines.target (named s t) (dsm.node s t) l).0 ≡ (dsmLines.pointed (named s t) l).0) l at refl in
+      let same : (dsm.written s t).0 ≡ (dsm.points_to s t).0 = DsmNumbers.by_line (λ (l : DsmLines.Line). (DsmLines.target (named s t) (dsm.node s t) l).0 ≡ (DsmLines.pointed (named s t) l).0) l at refl in
       omega (arith, written (omega (arith, at))))
       (dsm_entry_tells s t).answers
-      (λ q. dsmNumbers.by_line (λ (l : dsmLines.Line). dsmLines.accesses (named s t) (dsm.node s t) l ≡ []) l (here Blank 0 tells.blanks q) refl)
+      (λ q. DsmNumbers.by_line (λ (l : DsmLines.Line). DsmLines.accesses (named s t) (dsm.node s t) l ≡ []) l (here Blank 0 tells.blanks q) refl)

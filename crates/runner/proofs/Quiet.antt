@@ -25,14 +25,14 @@ use Rattle.machine.specs.Accesses.{Access, read, whole}
 use Rattle.machine.specs.Events.{same_event}
 use Rattle.machine.specs.Methods.{last_line}
 use Rattle.machine.specs.Threads.{keeping}
-use Rattle.cc_lines.specs.Lines as ccLines
-use Rattle.cc_lines.proofs.Numbers as ccNumbers
-use Rattle.dsm_lines.specs.Lines as dsmLines
-use Rattle.dsm_lines.specs.Rows as dsmRows
-use Rattle.dsm_lines.proofs.Numbers as dsmNumbers
+use Rattle.cc_lines.specs.Lines as CcLines
+use Rattle.cc_lines.proofs.Numbers as CcNumbers
+use Rattle.dsm_lines.specs.Lines as DsmLines
+use Rattle.dsm_lines.specs.Rows as DsmRows
+use Rattle.dsm_lines.proofs.Numbers as DsmNumbers
 use Rattle.methods.specs.Methods.{row_by, spin_line, spin_node}
 use Rattle.copies.specs.Remote.{Referred, at_hand_by, at_hand, referred_by}
-use Rattle.copies.specs.Remote.{place as copyPlace}
+use Rattle.copies.specs.Remote.{place as copy_place}
 use Rattle.state.specs.declared.Counts.{Counts}
 use Rattle.state.specs.declared.State.{State}
 use Rattle.state.specs.Range.{counts_in_range}
@@ -91,11 +91,11 @@ quiet_by m s t event unnoted left counted = record {
 -- only the row of no printed line is a blank's
 blank_number : (m : Method) (k : ℕ) → k ≤ last_line m → same_event (row_by m k).event Blank ≡ true → k ≡ 0
 blank_number CcSynch k few blank =
-    sym (ccNumbers.number_of k few)
-    ∙ rw blank at (ccNumbers.each_line (λ (l : ccLines.Line). cond (same_event (ccLines.row_of l).event Blank) (ccLines.number l) 0 ≡ 0) (omega arith) (ccLines.line_of k))
+    sym (CcNumbers.number_of k few)
+    ∙ rw blank at (CcNumbers.each_line (λ (l : CcLines.Line). cond (same_event (CcLines.row_of l).event Blank) (CcLines.number l) 0 ≡ 0) (omega arith) (CcLines.line_of k))
 blank_number DsmSynch k few blank =
-    sym (dsmNumbers.number_of k few)
-    ∙ rw blank at (dsmNumbers.each_line (λ (l : dsmLines.Line). cond (same_event (dsmRows.row_of l).event Blank) (dsmLines.number l) 0 ≡ 0) (omega arith) (dsmLines.line_of k))
+    sym (DsmNumbers.number_of k few)
+    ∙ rw blank at (DsmNumbers.each_line (λ (l : DsmLines.Line). cond (same_event (DsmRows.row_of l).event Blank) (DsmLines.number l) 0 ≡ 0) (omega arith) (DsmLines.line_of k))
 
 module _ (n t : ℕ) (th : Thread) (x : Node) (tail : NodeId) (h : ℕ) (copies : List ℕ) where
   blank_leaves : (m : Method) → Leaves m n t th x tail h copies Blank 0
@@ -151,7 +151,7 @@ spin_more c = record { records = c.records; turns = c.turns; blanks = c.blanks; 
 
 -- as the tests for it say, of the node and its place among the copies
 pub spin_quiet : (m : Method) (s : State) (t : ThreadId) {at : ℕ} {node : NodeId} (has : Bool) → (named s t).line ≡ spin_line m → node ≡ spin_node m (named s t).cur (named s t).my
-    → at ≡ copyPlace (whole node) → has ≡ at_hand_by m (get_or s.copies at 0) t.0 (whole node) → ((get_or s.nodes node.0 zero_node).wait && has) ≡ true
+    → at ≡ copy_place (whole node) → has ≡ at_hand_by m (get_or s.copies at 0) t.0 (whole node) → ((get_or s.nodes node.0 zero_node).wait && has) ≡ true
     → Quiet m s t (spin_more s.counts)
 spin_quiet m s t {at} {node} has stands is placed hand both =
     let found = (and-eq-true_iff (get_or s.nodes node.0 zero_node).wait has).0 both in

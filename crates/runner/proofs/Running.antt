@@ -32,9 +32,9 @@ use Rattle.machine.specs.Events.{same_event}
 use Rattle.machine.specs.Lines.{up_from}
 use Rattle.machine.specs.Methods.{last_line}
 use Rattle.machine.specs.Sizes.{most_calls, most_nodes}
-use Rattle.cc_lines.specs.Lines as ccLines
-use Rattle.cc_synch.specs.Effect as ccEffect
-use Rattle.dsm_synch.specs.Effect as dsmEffect
+use Rattle.cc_lines.specs.Lines as CcLines
+use Rattle.cc_synch.specs.Effect as CcEffect
+use Rattle.dsm_synch.specs.Effect as DsmEffect
 use Rattle.methods.specs.Methods.{row_by, spin_line, spin_node}
 use Rattle.methods.specs.Methods as methods
 use Rattle.state.specs.declared.Counts.{Counts}
@@ -204,13 +204,13 @@ module _ (m : Method) (f : Fields) (bytes : List ℕ) (fits : InRange f) where
     -- so does the loop's own call by either method
     module _ (xn : Node) (request : Request) {h' : ℕ} {answer answer' : Answer} {e : Effect} (limit : h' ≡ s.h) (same : answer ≡ answer') where
       pub cc_answers : {k : ℕ} → m ≡ CcSynch → k ≡ line s t → xn ≡ node_by m s t
-          → e ≡ ccEffect.wrapped (ccEffect.executed (named s t) xn s.tail h' request answer (ccLines.line_of k)) → Answers xn request answer' e m
+          → e ≡ CcEffect.wrapped (CcEffect.executed (named s t) xn s.tail h' request answer (CcLines.line_of k)) → Answers xn request answer' e m
       cc_answers by runs at e' =
           subst (λ (m' : Method). xn ≡ node_by m' s t → Untested f fits s x.past t below m' → Answers xn request answer' e m') (sym by)
           (λ at whole. e' ∙ rw (runs, limit, same, at) (whole request answer')) at line_untested
 
       pub dsm_answers : {yn : Node} → m ≡ DsmSynch → yn ≡ get_or s.nodes xn.next.0 zero_node
-          → e ≡ dsmEffect.effect_of t.0 (named s t) xn yn s.tail h' request answer → Answers xn request answer' e m
+          → e ≡ DsmEffect.effect_of t.0 (named s t) xn yn s.tail h' request answer → Answers xn request answer' e m
       dsm_answers by behind e' = subst (Answers xn request answer' e) (sym by) (rw (← behind, ← limit, ← same) e')
 
     -- what the loop's own calls answered for the entry, and what the notes left in the arrays
@@ -389,17 +389,17 @@ module _ {bytes : List ℕ} {start : State} {method : Method} {rows : List Row} 
   pub looping_on : {s' : State} {kept' : List Kept} {order' given' turns' : List ℕ} → s'.n ≡ s.n → s'.h ≡ s.h → s'.kind ≡ s.kind → s'.capacity ≡ s.capacity
       → i < length bytes → Running method x.file bytes (i + 1) s' kept' order' given' turns'
       → Looping bytes start method rows spin n h kind capacity (i + 1) s' kept' order' given' turns'
-  looping_on same-n same-h same_kind same-capacity inside running = record {
+  looping_on same_n same_h same_kind same_capacity inside running = record {
     file = x.file;
     fits = x.fits;
     entries = x.entries;
     fresh = x.fresh;
     table = x.table;
     waits = x.waits;
-    threads = x.threads ∙ sym same-n;
-    limit = x.limit ∙ sym same-h;
+    threads = x.threads ∙ sym same_n;
+    limit = x.limit ∙ sym same_h;
     object = x.object ∙ sym same_kind;
-    room = x.room ∙ sym same-capacity;
+    room = x.room ∙ sym same_capacity;
     inside = omega arith;
     running = running;
   }

@@ -286,7 +286,7 @@ module _ (m : Method) (f : Fields) (fits : InRange f) (s : State) (past : List E
         by_told (λ (l : List ℕ). get_or l k 0 ≡ place_of (call_assigned (node_id k) (e ∷ past))) Swaps _ given
         (λ q.
         let assigned : e.node.0 ≡ (assigned_by m s t).0 = now.tells.assigned q in
-        set_all (λ k place-held. place-held ≡ place_of (call_assigned (node_id k) (e ∷ past))) given (assigned_by m s t).0 _ 0 (omega (arith, now.assigns q, tables.nodes_long))
+        set_all (λ k place_held. place_held ≡ place_of (call_assigned (node_id k) (e ∷ past))) given (assigned_by m s t).0 _ 0 (omega (arith, now.assigns q, tables.nodes_long))
         (mod-eq_of_lt (omega (arith, place_below)) ∙ sym call_place
         ∙ ap place_of (sym (given_by (assigned_by m s t).0 true (ap₂ ◌&&◌ (is_so e Swaps q) (eq-eqb e.node.0 (assigned_by m s t).0 assigned)))))
         k

@@ -38,9 +38,9 @@ module _ (m : Method) (s : State) (shaped : Shaped s) (i : ℕ) (used : i ≤ la
       (first_at (node_in_range s.kind s.capacity (last_node m s.n)) (last_node m s.n + 1) s.nodes i facts.nodes (omega arith)
       (omega (arith, nodes_there m s facts, shaped.nodes)) none)
 
-  module _ (count : ℕ) (in-ret : (get_or s.nodes i none).ret ≡ Answered (Done count)) where
+  module _ (count : ℕ) (in_ret : (get_or s.nodes i none).ret ≡ Answered (Done count)) where
     count_in_range : in_range_by m s ≡ true → (1 ≤ count) × (count ≤ s.capacity)
-    count_in_range range = (within_range 1 count s.capacity).0 (rw in-ret at (node_at range).ret)
+    count_in_range range = (within_range 1 count s.capacity).0 (rw in_ret at (node_at range).ret)
 
     pub done_judged : ((1 ≤ count) × (count ≤ s.capacity) → ⊥) → in_range_by m s ≡ false
     done_judged out = (not-eq-not {b = false}).0 (λ range. out (count_in_range range))
@@ -50,5 +50,5 @@ module _ (m : Method) (s : State) (shaped : Shaped s) (i : ℕ) (used : i ≤ la
         (not-eq-not {b = false}).0
         (λ range.
         let held = rw counter at (state_fits m s range).held in
-        let no-capacity = (within_range 0 s.capacity 0).0 ((and-eq-true_iff _ _).0 held).0 in
-        omega (arith, no-capacity, count_in_range range))
+        let no_capacity = (within_range 0 s.capacity 0).0 ((and-eq-true_iff _ _).0 held).0 in
+        omega (arith, no_capacity, count_in_range range))

@@ -9,10 +9,10 @@ use Rattle.cc_lines.specs.Lines.{Line, printed, line_of, accesses_by, number}
 use Rattle.cc_lines.specs.Said.{shared_accesses}
 use Rattle.machine.specs.Lines.{beside}
 use Rattle.cc_lines.proofs.Table.{as_tabled}
-use Rattle.dsm_lines.specs.Lines as dsmLines
-use Rattle.dsm_lines.specs.Said as dsmLinesSaid
-use Rattle.dsm_lines.proofs.Numbers as dsmNumbers
-use Rattle.dsm_lines.proofs.Table as dsmTable
+use Rattle.dsm_lines.specs.Lines as DsmLines
+use Rattle.dsm_lines.specs.Said as DsmLinesSaid
+use Rattle.dsm_lines.proofs.Numbers as DsmNumbers
+use Rattle.dsm_lines.proofs.Table as DsmTable
 use Rattle.state.specs.declared.State.{State}
 use Rattle.step.specs.Entry.{named, line, accesses}
 use Rattle.step.specs.DsmEntry as dsm
@@ -32,15 +32,15 @@ entry_as_tabled s t h =
 
 -- the same of DSM-Synch; the node that the line points to decides what lies behind it
 module _ (th : Thread) (x : Node) where
-  abbrev dsm_said : dsmLines.Line → List Access
-  dsm_said l = beside [] (dsmLines.number l) (dsmLinesSaid.shared_accesses th x)
+  abbrev dsm_said : DsmLines.Line → List Access
+  dsm_said l = beside [] (DsmLines.number l) (DsmLinesSaid.shared_accesses th x)
 
-  dsm_line_as_tabled : (l : dsmLines.Line) → dsmLines.accesses th x l ≡ dsm_said l
+  dsm_line_as_tabled : (l : DsmLines.Line) → DsmLines.accesses th x l ≡ dsm_said l
   dsm_line_as_tabled =
-      dsmNumbers.each_line (λ l. dsmLines.accesses th x l ≡ dsm_said l) (refl, each_same (dsmLines.accesses th x) dsm_said dsmLines.printed (dsmTable.as_tabled th x))
+      DsmNumbers.each_line (λ l. DsmLines.accesses th x l ≡ dsm_said l) (refl, each_same (DsmLines.accesses th x) dsm_said DsmLines.printed (DsmTable.as_tabled th x))
 
 pub dsm_entry_as_tabled : (s : State) (t : ThreadId) → line s t ≤ 28
-    → dsm.accesses s t ≡ beside [] (line s t) (dsmLinesSaid.shared_accesses (named s t) (dsm.node s t))
+    → dsm.accesses s t ≡ beside [] (line s t) (DsmLinesSaid.shared_accesses (named s t) (dsm.node s t))
 dsm_entry_as_tabled s t h =
     dsm_line_as_tabled (named s t) (dsm.node s t) (dsm.runs s t)
-    ∙ ap (λ (k : ℕ). beside [] k (dsmLinesSaid.shared_accesses (named s t) (dsm.node s t))) (dsmNumbers.number_of (line s t) h)
+    ∙ ap (λ (k : ℕ). beside [] k (DsmLinesSaid.shared_accesses (named s t) (dsm.node s t))) (DsmNumbers.number_of (line s t) h)

@@ -61,7 +61,7 @@ same_rows kind requests requests' i (suc n) (th ∷ ths) f =
 abbrev pub Near : ℕ → Access → Type 0
 Near n a = place (located a) < locations_of (n + 1)
 
-module _ (n : ℕ) (m behind : NodeId) (up_to_lem : m.0 ≤ n) (behind-up-to : behind.0 ≤ n) where
+module _ (n : ℕ) (m behind : NodeId) (up_to_lem : m.0 ≤ n) (behind_up_to : behind.0 ≤ n) where
   -- the accesses of a line that points to such a node, before such a one, are near
   near_to : (a : SharedAccess) → Each (Near n) (access_to m behind a)
   near_to NoAccess = tt

@@ -92,9 +92,9 @@ exchanged false b = sym (or-false b)
 
 -- thread t, th; x, the node that its line points to, and y, the node behind x; and Tail
 module _ (last h : ℕ) (kind : Kind) (capacity t : ℕ) (th : Thread) (x y : Node) (tail : NodeId) (request : Request) (answer : Answer)
-    (few : last < most_nodes) (its_own : (place : ℕ) → place ≤ 1 → (node_of t place).0 ≤ last) (tail-fits : NodeOrNull last tail.0)
-    (x_Fits : NodeFits kind capacity last x) (y-fits : NodeFits kind capacity last y) (now : ThreadFits DsmSynch last h th th.line)
-    (known : 0 < th.begun → knows kind request ≡ true) (answer-fits : answer_in_range capacity answer ≡ true) where
+    (few : last < most_nodes) (its_own : (place : ℕ) → place ≤ 1 → (node_of t place).0 ≤ last) (tail_fits : NodeOrNull last tail.0)
+    (x_fits : NodeFits kind capacity last x) (y_fits : NodeFits kind capacity last y) (now : ThreadFits DsmSynch last h th th.line)
+    (known : 0 < th.begun → knows kind request ≡ true) (answer_fits : answer_in_range capacity answer ≡ true) where
   abbrev misses : Line → Bool
   misses l = uses_empty x (number l) || to_null (accesses th x l)
 
@@ -117,12 +117,12 @@ module _ (last h : ℕ) (kind : Kind) (capacity t : ℕ) (th : Thread) (x y : No
   -- the forms of such lines
   stays : (l : Line) (after : Thread) → ThreadFits DsmSynch last h th (stands_at (number l)) → own_cause (number l) ≡ false → after.count ≡ th.count
       → ThreadFits DsmSynch last h after after.line → LeavesAt l (keeps t th x y tail after)
-  stays l after f none c = kept DsmSynch last h kind capacity th x tail tail-fits x_Fits (misses l) (takes_out th x h (number l)) after c (free l f none)
+  stays l after f none c = kept DsmSynch last h kind capacity th x tail tail_fits x_fits (misses l) (takes_out th x h (number l)) after c (free l f none)
 
   writes_on : (l : Line) (line : ℕ) (after : Node) → ThreadFits DsmSynch last h th (stands_at (number l)) → own_cause (number l) ≡ false
       → NodeFits kind capacity last after → ThreadFits DsmSynch last h (goes th line) line → LeavesAt l (writes t th x y tail after line)
   writes_on l line after f none p =
-      written DsmSynch last h kind capacity th x tail tail-fits x_Fits (misses l) (takes_out th x h (number l)) line after p (free l f none)
+      written DsmSynch last h kind capacity th x tail tail_fits x_fits (misses l) (takes_out th x h (number l)) line after p (free l f none)
 
   -- that the thread fits at the line that it goes on to
   abbrev AtLine : ℕ → Type 0
@@ -131,7 +131,7 @@ module _ (last h : ℕ) (kind : Kind) (capacity t : ℕ) (th : Thread) (x y : No
   -- the thread's part of a line that leaves more
   goes_free : (l : Line) (after : Thread) → ThreadFits DsmSynch last h th (stands_at (number l)) → own_cause (number l) ≡ false
       → ThreadFits DsmSynch last h after after.line → (not (misses l) && thread_in_range DsmSynch last h after) ≡ not (takes_out th x h (number l))
-  goes_free l after f none = goes_on DsmSynch last h kind capacity th x tail tail-fits x_Fits (misses l) (takes_out th x h (number l)) after (free l f none)
+  goes_free l after f none = goes_on DsmSynch last h kind capacity th x tail tail_fits x_fits (misses l) (takes_out th x h (number l)) after (free l f none)
 
   -- line by line
   line_leaves : (l : Line) → ThreadFits DsmSynch last h th (stands_at (number l)) → (number l ≡ 1 → th.begun < th.count)
@@ -139,48 +139,48 @@ module _ (last h : ℕ) (kind : Kind) (capacity t : ℕ) (th : Thread) (x y : No
   line_leaves L0 f g = stays L0 _ f refl refl now
   line_leaves L1 f g =
       let room = g refl in
-      kept DsmSynch last h kind capacity th x tail tail-fits x_Fits (misses L1) (takes_out th x h 1) _ refl (simp (lt-leb th.count th.begun))
+      kept DsmSynch last h kind capacity th x tail tail_fits x_fits (misses L1) (takes_out th x h 1) _ refl (simp (lt-leb th.count th.begun))
       (search (arith, f, nowhere))
   line_leaves L2 f g = let mine = its_own th.toggle f.pointers.toggle in stays L2 _ f refl refl (search (arith, f))
-  line_leaves L3 f g = writes_on L3 _ _ f refl (search x_Fits) (search (arith, f))
-  line_leaves L4 f g = writes_on L4 _ _ f refl (search x_Fits) (search (arith, f))
-  line_leaves L5 f g = writes_on L5 _ _ f refl (search (x_Fits, nowhere)) (search (arith, f))
-  line_leaves L6 f g = writes_on L6 _ _ f refl (search (x_Fits, known f.begun)) (search (arith, f))
-  line_leaves L7 f g = record { thread = goes_free L7 (with_pred th 8 tail) f refl (search (arith, f)); count = refl; tail = there f.pointers.my; node = x_Fits }
+  line_leaves L3 f g = writes_on L3 _ _ f refl (search x_fits) (search (arith, f))
+  line_leaves L4 f g = writes_on L4 _ _ f refl (search x_fits) (search (arith, f))
+  line_leaves L5 f g = writes_on L5 _ _ f refl (search (x_fits, nowhere)) (search (arith, f))
+  line_leaves L6 f g = writes_on L6 _ _ f refl (search (x_fits, known f.begun)) (search (arith, f))
+  line_leaves L7 f g = record { thread = goes_free L7 (with_pred th 8 tail) f refl (search (arith, f)); count = refl; tail = there f.pointers.my; node = x_fits }
   line_leaves L8 f g = stays L8 _ f refl refl (either AtLine (is_null th.pred) (λ e. search (arith, f)) (λ e. search (arith, f)))
-  line_leaves L9 f g = writes_on L9 _ _ f refl (search (x_Fits, there f.pointers.my)) (search (arith, f))
+  line_leaves L9 f g = writes_on L9 _ _ f refl (search (x_fits, there f.pointers.my)) (search (arith, f))
   line_leaves L10 f g = stays L10 _ f refl refl (either AtLine x.wait (λ e. search (arith, f)) (λ e. search (arith, f)))
   line_leaves L11 f g = stays L11 _ f refl refl (either AtLine x.completed (λ e. search (arith, f)) (λ e. search (arith, f)))
   line_leaves L12 f g = stays L12 _ f refl refl (search (arith, f, there))
   line_leaves L13 f g = stays L13 _ f refl refl (search (arith, f))
   line_leaves L14 f g = stays L14 _ f refl refl (search (arith, f))
   line_leaves L15 f g =
-      barred DsmSynch last h kind capacity th x tail tail-fits x_Fits (misses L15) (takes_out th x h 15) (with_served th 16 (th.served + 1)) (leb h th.served)
+      barred DsmSynch last h kind capacity th x tail tail_fits x_fits (misses L15) (takes_out th x h 15) (with_served th 16 (th.served + 1)) (leb h th.served)
       refl refl (simp or-false) (λ e. let below = leb-false h th.served e in search (arith, f))
       (λ after. lt-leb h th.served (omega (arith, after.served)))
-  line_leaves L16 f g = writes_on L16 _ _ f refl (search (x_Fits, answer-fits)) (search (arith, f))
-  line_leaves L17 f g = writes_on L17 _ _ f refl (search x_Fits) (search (arith, f))
-  line_leaves L18 f g = writes_on L18 _ _ f refl (search x_Fits) (search (arith, f))
+  line_leaves L16 f g = writes_on L16 _ _ f refl (search (x_fits, answer_fits)) (search (arith, f))
+  line_leaves L17 f g = writes_on L17 _ _ f refl (search x_fits) (search (arith, f))
+  line_leaves L18 f g = writes_on L18 _ _ f refl (search x_fits) (search (arith, f))
   line_leaves L19 f g =
       stays L19 _ f refl refl
       (either AtLine (is_null x.next || (is_null y.next || leb h th.served)) (λ e. search (arith, f)) (λ e. search (arith, f)))
   line_leaves L20 f g = stays L20 _ f refl refl (search (arith, f))
   line_leaves L21 f g =
-      barred DsmSynch last h kind capacity th x tail tail-fits x_Fits (misses L21) (takes_out th x h 21) (with_tmp th 14 x.next) (is_null x.next) refl
+      barred DsmSynch last h kind capacity th x tail tail_fits x_fits (misses L21) (takes_out th x h 21) (with_tmp th 14 x.next) (is_null x.next) refl
       (rw (points_sure last h th L21 f few x (omega arith) (λ e. omega arith))) (simp or-false)
-      (λ e. let below = not_null x_Fits.next e in search (arith, f))
+      (λ e. let below = not_null x_fits.next e in search (arith, f))
       (λ after. ne_eqb x.next.0 255 (λ q. omega (arith, after.pointers.tmp)))
   line_leaves L22 f g = stays L22 _ f refl refl (either AtLine (is_null x.next) (λ e. search (arith, f)) (λ e. search (arith, f)))
   line_leaves L23 f g = record {
     thread = goes_free L23 _ f refl (either AtLine (empties tail th.tmp) (λ e. search (arith, f)) (λ e. search (arith, f)));
     count = refl;
-    tail = either (λ (m : NodeId). NodeOrNull last m.0) (empties tail th.tmp) (λ e. nowhere refl) (λ e. tail-fits);
-    node = x_Fits;
+    tail = either (λ (m : NodeId). NodeOrNull last m.0) (empties tail th.tmp) (λ e. nowhere refl) (λ e. tail_fits);
+    node = x_fits;
   }
   line_leaves L24 f g = stays L24 _ f refl refl (search (arith, f, there))
   line_leaves L25 f g = stays L25 _ f refl refl (either AtLine (is_null x.next) (λ e. search (arith, f)) (λ e. search (arith, f)))
-  line_leaves L26 f g = record { thread = goes_free L26 (goes th 27) f refl (search (arith, f)); count = refl; tail = tail-fits; node = search y-fits }
-  line_leaves L27 f g = writes_on L27 _ _ f refl (search (x_Fits, nowhere)) (search (arith, f))
+  line_leaves L26 f g = record { thread = goes_free L26 (goes th 27) f refl (search (arith, f)); count = refl; tail = tail_fits; node = search y_fits }
+  line_leaves L27 f g = writes_on L27 _ _ f refl (search (x_fits, nowhere)) (search (arith, f))
   line_leaves L28 f g = stays L28 _ f refl refl (search (arith, f, there))
 
   -- the same by the line's number

@@ -56,20 +56,20 @@ module _ (n h : ℕ) (th : Thread) where
       f
 
 module _ (n h : ℕ) (kind : Kind) (capacity : ℕ) (th : Thread) (x : Node) (tail : NodeId) (request : Request) (answer : Answer)
-    (small : n ≤ 16) (tail-fits : tail.0 ≤ n) (x_Fits : NodeFits kind capacity n x)
+    (small : n ≤ 16) (tail_fits : tail.0 ≤ n) (x_fits : NodeFits kind capacity n x)
     (now : ThreadFits CcSynch n h th th.line) (known : 0 < th.begun → knows kind request ≡ true)
-    (answer-fits : answer_in_range capacity answer ≡ true) where
+    (answer_fits : answer_in_range capacity answer ≡ true) where
   abbrev LeavesAt : ℕ → Effect → Type 0
   LeavesAt k e = Leaves CcSynch n h kind capacity th (uses_empty x k) (takes_out th x h k) e
 
   -- the forms of lines, with what they may miss and why they may be 14
   stays : (k : ℕ) (after : Thread) → after.count ≡ th.count → takes_out th x h k ≡ uses_empty x k → ThreadFits CcSynch n h after after.line
       → LeavesAt k (keeps th x tail after)
-  stays k = kept CcSynch n h kind capacity th x tail tail-fits x_Fits (uses_empty x k) (takes_out th x h k)
+  stays k = kept CcSynch n h kind capacity th x tail tail_fits x_fits (uses_empty x k) (takes_out th x h k)
 
   writes_on : (k line : ℕ) (after : Node) → NodeFits kind capacity n after → takes_out th x h k ≡ uses_empty x k → ThreadFits CcSynch n h (goes th line) line
       → LeavesAt k (writes th x tail after line)
-  writes_on k = written CcSynch n h kind capacity th x tail tail-fits x_Fits (uses_empty x k) (takes_out th x h k)
+  writes_on k = written CcSynch n h kind capacity th x tail tail_fits x_fits (uses_empty x k) (takes_out th x h k)
 
   -- that the thread fits at the line that it goes on to
   abbrev AtLine : ℕ → Type 0
@@ -80,17 +80,17 @@ module _ (n h : ℕ) (kind : Kind) (capacity : ℕ) (th : Thread) (x : Node) (ta
       → LeavesAt (number l) (executed th x tail h request answer l)
   line_leaves L0 f g = stays 0 _ refl refl now
   line_leaves L1 f g = let room = g refl in stays 1 _ refl (simp (lt-leb th.count th.begun)) (search (arith, f, nowhere))
-  line_leaves L2 f g = writes_on 2 _ _ (search (x_Fits, nowhere)) refl (search (arith, f))
-  line_leaves L3 f g = writes_on 3 _ _ (search x_Fits) refl (search (arith, f))
-  line_leaves L4 f g = writes_on 4 _ _ (search x_Fits) refl (search (arith, f))
+  line_leaves L2 f g = writes_on 2 _ _ (search (x_fits, nowhere)) refl (search (arith, f))
+  line_leaves L3 f g = writes_on 3 _ _ (search x_fits) refl (search (arith, f))
+  line_leaves L4 f g = writes_on 4 _ _ (search x_fits) refl (search (arith, f))
   line_leaves L5 f g = record {
-    thread = goes_on CcSynch n h kind capacity th x tail tail-fits x_Fits false false (with_cur th 6 tail) refl (search (arith, f));
+    thread = goes_on CcSynch n h kind capacity th x tail tail_fits x_fits false false (with_cur th 6 tail) refl (search (arith, f));
     count = refl;
     tail = f.pointers.own;
-    node = x_Fits;
+    node = x_fits;
   }
-  line_leaves L6 f g = writes_on 6 _ _ (search (x_Fits, known f.begun)) refl (search (arith, f))
-  line_leaves L7 f g = writes_on 7 _ _ (search (x_Fits, there f.pointers.own)) refl (search (arith, f))
+  line_leaves L6 f g = writes_on 6 _ _ (search (x_fits, known f.begun)) refl (search (arith, f))
+  line_leaves L7 f g = writes_on 7 _ _ (search (x_fits, there f.pointers.own)) refl (search (arith, f))
   line_leaves L8 f g = stays 8 _ refl refl (search (arith, f))
   line_leaves L9 f g = stays 9 _ refl refl (either AtLine x.wait (λ t. search (arith, f)) (λ t. search (arith, f)))
   line_leaves L10 f g = stays 10 _ refl refl (either AtLine x.completed (λ t. search (arith, f)) (λ t. search (arith, f)))
@@ -98,18 +98,18 @@ module _ (n h : ℕ) (kind : Kind) (capacity : ℕ) (th : Thread) (x : Node) (ta
   line_leaves L12 f g = stays 12 _ refl refl (search (arith, f))
   line_leaves L13 f g = stays 13 _ refl refl (either AtLine (not (is_null x.next) && ltb th.served h) (λ t. search (arith, f)) (λ t. search (arith, f)))
   line_leaves L14 f g =
-      barred CcSynch n h kind capacity th x tail tail-fits x_Fits (uses_empty x 14) (takes_out th x h 14) (with_served th 15 (th.served + 1)) (leb h th.served) refl refl (simp or-false)
+      barred CcSynch n h kind capacity th x tail tail_fits x_fits (uses_empty x 14) (takes_out th x h 14) (with_served th 15 (th.served + 1)) (leb h th.served) refl refl (simp or-false)
       (λ e. let below = leb-false h th.served e in search (arith, f))
       (λ after. lt-leb h th.served (omega (arith, after.served)))
-  line_leaves L15 f g = stays 15 _ refl refl (search (arith, f, x_Fits))
-  line_leaves L16 f g = writes_on 16 _ _ (search (x_Fits, answer-fits)) refl (search (arith, f))
-  line_leaves L17 f g = writes_on 17 _ _ (search x_Fits) refl (search (arith, f))
-  line_leaves L18 f g = writes_on 18 _ _ (search x_Fits) refl (search (arith, f))
+  line_leaves L15 f g = stays 15 _ refl refl (search (arith, f, x_fits))
+  line_leaves L16 f g = writes_on 16 _ _ (search (x_fits, answer_fits)) refl (search (arith, f))
+  line_leaves L17 f g = writes_on 17 _ _ (search x_fits) refl (search (arith, f))
+  line_leaves L18 f g = writes_on 18 _ _ (search x_fits) refl (search (arith, f))
   line_leaves L19 f g =
-      barred CcSynch n h kind capacity th x tail tail-fits x_Fits (uses_empty x 19) (takes_out th x h 19) (with_tmp th 13 th.tmpnext) (is_null th.tmpnext) refl refl (simp or-false)
+      barred CcSynch n h kind capacity th x tail tail_fits x_fits (uses_empty x 19) (takes_out th x h 19) (with_tmp th 13 th.tmpnext) (is_null th.tmpnext) refl refl (simp or-false)
       (λ e. let below = not_null f.pointers.tmpnext e in search (arith, f))
       (λ after. ne_eqb th.tmpnext.0 255 (λ q. omega (arith, after.pointers.tmp)))
-  line_leaves L20 f g = writes_on 20 _ _ (search x_Fits) refl (search (arith, f, there))
+  line_leaves L20 f g = writes_on 20 _ _ (search x_fits) refl (search (arith, f, there))
   line_leaves L21 f g = stays 21 _ refl refl (search (arith, f, there))
 
   -- the same by the line's number

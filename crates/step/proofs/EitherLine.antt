@@ -39,8 +39,8 @@ pub leaves_by : (m : Method) (n h : ℕ) (kind : Kind) (capacity t : ℕ) (th : 
     → ThreadFits m (last_node m n) h th th.line → (0 < th.begun → knows kind request ≡ true) → answer_in_range capacity answer ≡ true
     → (k : ℕ) → k ≤ last_line m → ThreadFits m (last_node m n) h th (stands_at k) → (k ≡ 1 → th.begun < th.count)
     → Leaves m (last_node m n) h kind capacity th (line_misses m th x k) (line_out m th x h k) (line_done m t th x y tail h request answer k)
-leaves_by CcSynch n h kind capacity t th x y tail request answer small below tail-fits x_Fits y-fits now known answer-fits =
-    cc.leaves_at n h kind capacity th x tail request answer small tail-fits x_Fits now known answer-fits
-leaves_by DsmSynch n h kind capacity t th x y tail request answer small below tail-fits x_Fits y-fits now known answer-fits =
+leaves_by CcSynch n h kind capacity t th x y tail request answer small below tail_fits x_fits y_fits now known answer_fits =
+    cc.leaves_at n h kind capacity th x tail request answer small tail_fits x_fits now known answer_fits
+leaves_by DsmSynch n h kind capacity t th x y tail request answer small below tail_fits x_fits y_fits now known answer_fits =
     dsm.leaves_at (last_node DsmSynch n) h kind capacity t th x y tail request answer (nodes_held DsmSynch n (omega arith) small) (λ place one. omega arith)
-    tail-fits x_Fits y-fits now known answer-fits
+    tail_fits x_fits y_fits now known answer_fits

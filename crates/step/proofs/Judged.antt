@@ -13,9 +13,9 @@ use Rattle.step.specs.Entry.{zero_node}
 use Rattle.step.specs.Step.{refused, step_of}
 
 module _ (s : State) (t : ThreadId) (shaped : Shaped s) (i : ℕ) (used : i ≤ last_node s.method s.n)
-    (count : ℕ) (in-ret : (get_or s.nodes i zero_node).ret ≡ Answered (Done count)) where
+    (count : ℕ) (in_ret : (get_or s.nodes i zero_node).ret ≡ Answered (Done count)) where
   pub done_is_14 : ((1 ≤ count) × (count ≤ s.capacity) → ⊥) → step_of s t ≡ refused 14 s
-  done_is_14 out = rw (done_judged s.method s shaped i used zero_node count in-ret out)
+  done_is_14 out = rw (done_judged s.method s shaped i used zero_node count in_ret out)
 
   pub counter_done_is_14 : s.kind ≡ Counter → step_of s t ≡ refused 14 s
-  counter_done_is_14 counter = rw (counter_done_judged s.method s shaped i used zero_node count in-ret counter)
+  counter_done_is_14 counter = rw (counter_done_judged s.method s shaped i used zero_node count in_ret counter)

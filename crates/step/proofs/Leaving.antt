@@ -27,7 +27,7 @@ pub record Leaves (m : Method) (last h : ℕ) (kind : Kind) (capacity : ℕ) (th
   pub node : NodeFits kind capacity last e.node
 
 module _ (m : Method) (last h : ℕ) (kind : Kind) (capacity : ℕ) (th : Thread) (x : Node) (tail : NodeId)
-    (tail-fits : Points last (tail_nullable m) tail) (x_Fits : NodeFits kind capacity last x) where
+    (tail_fits : Points last (tail_nullable m) tail) (x_fits : NodeFits kind capacity last x) where
   -- a thread that fits goes on, unless the line misses something
   pub goes_on : (misses out : Bool) (after : Thread) → out ≡ misses → ThreadFits m last h after after.line
       → (not misses && thread_in_range m last h after) ≡ not out
@@ -36,11 +36,11 @@ module _ (m : Method) (last h : ℕ) (kind : Kind) (capacity : ℕ) (th : Thread
   -- a line that keeps the node and Tail, and one that writes the node
   pub kept : (misses out : Bool) (after : Thread) → after.count ≡ th.count → out ≡ misses → ThreadFits m last h after after.line
       → Leaves m last h kind capacity th misses out (keeping x tail after)
-  kept misses out after c e f = record { thread = goes_on misses out after e f; count = c; tail = tail-fits; node = x_Fits }
+  kept misses out after c e f = record { thread = goes_on misses out after e f; count = c; tail = tail_fits; node = x_fits }
 
   pub written : (misses out : Bool) (line : ℕ) (after : Node) → NodeFits kind capacity last after → out ≡ misses → ThreadFits m last h (goes th line) line
       → Leaves m last h kind capacity th misses out (writing th tail after line)
-  written misses out line after p e f = record { thread = goes_on misses out (goes th line) e f; count = refl; tail = tail-fits; node = p }
+  written misses out line after p e f = record { thread = goes_on misses out (goes th line) e f; count = refl; tail = tail_fits; node = p }
 
   -- a line with a cause of its own
   pub barred : (misses out : Bool) (after : Thread) (cause : Bool) → after.count ≡ th.count → misses ≡ false → out ≡ cause
@@ -52,6 +52,6 @@ module _ (m : Method) (last h : ℕ) (kind : Kind) (capacity : ℕ) (th : Thread
             rw (e, u) (opposite (thread_in_range m last h after) cause (λ b. (thread_iff m last h after).1 (to b))
             (λ b. from ((thread_iff m last h after).0 b)));
         count = c;
-        tail = tail-fits;
-        node = x_Fits;
+        tail = tail_fits;
+        node = x_fits;
       }

@@ -10,17 +10,17 @@ use Rattle.machine.specs.declared.Thread.{Thread}
 use Rattle.machine.specs.Accesses.{pointed, accesses_of, writes_any, written_of}
 use Rattle.machine.specs.Events.{event_found}
 use Rattle.machine.specs.Lines.{line_run}
-use Rattle.cc_lines.specs.Lines as ccLines
-use Rattle.cc_lines.proofs.Numbers as ccNumbers
-use Rattle.cc_lines.proofs.Table as ccTable
-use Rattle.cc_synch.specs.Effect as ccEffect
-use Rattle.cc_synch.proofs.Refusal as ccRefusal
-use Rattle.dsm_lines.specs.Lines as dsmLines
-use Rattle.dsm_lines.specs.Rows as dsmRows
-use Rattle.dsm_lines.proofs.Numbers as dsmNumbers
-use Rattle.dsm_lines.proofs.Rows as dsmTable
-use Rattle.dsm_synch.specs.Effect as dsmEffect
-use Rattle.dsm_synch.proofs.Refusal as dsmRefusal
+use Rattle.cc_lines.specs.Lines as CcLines
+use Rattle.cc_lines.proofs.Numbers as CcNumbers
+use Rattle.cc_lines.proofs.Table as CcTable
+use Rattle.cc_synch.specs.Effect as CcEffect
+use Rattle.cc_synch.proofs.Refusal as CcRefusal
+use Rattle.dsm_lines.specs.Lines as DsmLines
+use Rattle.dsm_lines.specs.Rows as DsmRows
+use Rattle.dsm_lines.proofs.Numbers as DsmNumbers
+use Rattle.dsm_lines.proofs.Rows as DsmTable
+use Rattle.dsm_synch.specs.Effect as DsmEffect
+use Rattle.dsm_synch.proofs.Refusal as DsmRefusal
 use Rattle.methods.specs.Methods.{row_by}
 use Rattle.methods.specs.Methods as methods
 use Rattle.step.specs.ByMethod.{line_points, line_writes, line_accesses, line_event, line_done, line_out}
@@ -28,20 +28,20 @@ use Rattle.step.specs.ByMethod.{line_points, line_writes, line_accesses, line_ev
 -- the node that the line points to
 pub row_points : (m : Method) (th : Thread) (k : ℕ) → pointed (row_by m k).node th ≡ line_points m th k
 row_points CcSynch th k = refl
-row_points DsmSynch th k = dsmTable.row_points th (dsmLines.line_of k)
+row_points DsmSynch th k = DsmTable.row_points th (DsmLines.line_of k)
 
 -- its accesses, the node that it writes, and what an entry of it is, where x is the node that it points to
 pub row_accesses : (m : Method) (th : Thread) (x : Node) (k : ℕ) → accesses_of (row_by m k) (line_points m th k) x.next ≡ line_accesses m th x k
-row_accesses CcSynch th x k = ccTable.behind_unread (ccLines.line_of k) (line_points CcSynch th k) x.next
-row_accesses DsmSynch th x k = dsmTable.row_accesses x th (dsmLines.line_of k)
+row_accesses CcSynch th x k = CcTable.behind_unread (CcLines.line_of k) (line_points CcSynch th k) x.next
+row_accesses DsmSynch th x k = DsmTable.row_accesses x th (DsmLines.line_of k)
 
 pub row_writes_lem : (m : Method) (th : Thread) (x : Node) (k : ℕ) → written_of (row_by m k) (line_points m th k) x.next ≡ line_writes m th x k
-row_writes_lem CcSynch th x k = ccTable.written_is_pointed (ccLines.line_of k) (line_points CcSynch th k) x.next
-row_writes_lem DsmSynch th x k = dsmTable.row_writes_lem x th (dsmLines.line_of k)
+row_writes_lem CcSynch th x k = CcTable.written_is_pointed (CcLines.line_of k) (line_points CcSynch th k) x.next
+row_writes_lem DsmSynch th x k = DsmTable.row_writes_lem x th (DsmLines.line_of k)
 
 pub row_event : (m : Method) (th : Thread) (x : Node) (tail : NodeId) (k : ℕ) → event_found (row_by m k) x (eqb tail.0 th.tmp.0) ≡ line_event m th x tail k
-row_event CcSynch th x tail k = ccTable.event_found_lem (ccLines.line_of k) x (eqb tail.0 th.tmp.0)
-row_event DsmSynch th x tail k = dsmTable.event_found_lem x (dsmLines.empties tail th.tmp) (dsmLines.line_of k)
+row_event CcSynch th x tail k = CcTable.event_found_lem (CcLines.line_of k) x (eqb tail.0 th.tmp.0)
+row_event DsmSynch th x tail k = DsmTable.event_found_lem x (DsmLines.empties tail th.tmp) (DsmLines.line_of k)
 
 -- one of 16 threads of DSM-Synch with a toggle of 0 or 1 has its two nodes
 abbrev pub HasNodes : Method → ℕ → Thread → Type 0
@@ -54,25 +54,25 @@ module _ (t : ℕ) (th : Thread) (x y : Node) (tail : NodeId) (h : ℕ) (request
       → (line_writes m th x k ≡ line_points m th k) × ((line_done m t th x y tail h request answer k).node ≡ x)
   row_leaves CcSynch k none = (
     refl,
-    rw none at (ccNumbers.agree (λ l. cond (writes_any (ccLines.row_of l)) x (ccEffect.executed th x tail h request answer l).node) (λ l. x) refl refl (ccLines.line_of k)),
+    rw none at (CcNumbers.agree (λ l. cond (writes_any (CcLines.row_of l)) x (CcEffect.executed th x tail h request answer l).node) (λ l. x) refl refl (CcLines.line_of k)),
   )
   row_leaves DsmSynch k none = (
-    rw none at (dsmNumbers.agree (λ l. cond (writes_any (dsmRows.row_of l)) (dsmLines.pointed th l) (dsmLines.target th x l)) (dsmLines.pointed th) refl refl (dsmLines.line_of k)),
-    rw none at (dsmNumbers.agree (λ l. cond (writes_any (dsmRows.row_of l)) x (dsmEffect.executed t th x y tail h request answer l).node) (λ l. x) refl refl (dsmLines.line_of k)),
+    rw none at (DsmNumbers.agree (λ l. cond (writes_any (DsmRows.row_of l)) (DsmLines.pointed th l) (DsmLines.target th x l)) (DsmLines.pointed th) refl refl (DsmLines.line_of k)),
+    rw none at (DsmNumbers.agree (λ l. cond (writes_any (DsmRows.row_of l)) x (DsmEffect.executed t th x y tail h request answer l).node) (λ l. x) refl refl (DsmLines.line_of k)),
   )
 
   -- a line that is not 14 for a cause of its own is done
   pub goes_ahead : (m : Method) → HasNodes m t th → line_out m th x h (line_run th) ≡ false
       → methods.effect_by m t th x y tail h request answer ≡ line_done m t th x y tail h request answer (line_run th)
-  goes_ahead CcSynch has = ccRefusal.goes_ahead th x tail h request answer
-  goes_ahead DsmSynch has = dsmRefusal.goes_ahead t th x y tail h request answer has.0 has.1
+  goes_ahead CcSynch has = CcRefusal.goes_ahead th x tail h request answer
+  goes_ahead DsmSynch has = DsmRefusal.goes_ahead t th x y tail h request answer has.0 has.1
 
   -- and so is one that is not refused; one that is refused is 14
   pub goes_through : (m : Method) → HasNodes m t th → (methods.effect_by m t th x y tail h request answer).refusal ≡ 0
       → (line_out m th x h (line_run th) ≡ false) × (methods.effect_by m t th x y tail h request answer ≡ line_done m t th x y tail h request answer (line_run th))
-  goes_through CcSynch has = ccRefusal.goes_through th x tail h request answer
-  goes_through DsmSynch has = dsmRefusal.goes_through t th x y tail h request answer has.0 has.1
+  goes_through CcSynch has = CcRefusal.goes_through th x tail h request answer
+  goes_through DsmSynch has = DsmRefusal.goes_through t th x y tail h request answer has.0 has.1
 
   pub refused_out : (m : Method) → HasNodes m t th → ((methods.effect_by m t th x y tail h request answer).refusal ≡ 0 → ⊥) → line_out m th x h (line_run th) ≡ true
-  refused_out CcSynch has = ccRefusal.refused_out th x tail h request answer
-  refused_out DsmSynch has = dsmRefusal.refused_out t th x y tail h request answer has.0 has.1
+  refused_out CcSynch has = CcRefusal.refused_out th x tail h request answer
+  refused_out DsmSynch has = DsmRefusal.refused_out t th x y tail h request answer has.0 has.1

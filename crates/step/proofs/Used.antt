@@ -17,12 +17,12 @@ use Rattle.machine.specs.declared.Effect.{Effect}
 use Rattle.machine.specs.Accesses.{Access, pointed}
 use Rattle.machine.specs.Lines.{line_run}
 use Rattle.machine.specs.Methods.{last_node}
-use Rattle.cc_lines.specs.Lines as ccLines
-use Rattle.cc_lines.proofs.Numbers as ccNumbers
-use Rattle.cc_synch.specs.Effect as ccEffect
-use Rattle.dsm_lines.specs.Lines as dsmLines
-use Rattle.dsm_lines.proofs.Numbers as dsmNumbers
-use Rattle.dsm_synch.specs.Effect as dsmEffect
+use Rattle.cc_lines.specs.Lines as CcLines
+use Rattle.cc_lines.proofs.Numbers as CcNumbers
+use Rattle.cc_synch.specs.Effect as CcEffect
+use Rattle.dsm_lines.specs.Lines as DsmLines
+use Rattle.dsm_lines.proofs.Numbers as DsmNumbers
+use Rattle.dsm_synch.specs.Effect as DsmEffect
 use Rattle.copies.specs.Remote.{referred_by}
 use Rattle.copies.proofs.References.{copies_stay}
 use Rattle.state.specs.declared.Slot.{Slot}
@@ -39,10 +39,10 @@ use Rattle.step.proofs.Alike.{owner_decides}
 pub others_keep : (m : Method) (t : ℕ) (th : Thread) (x y : Node) (tail : NodeId) (h : ℕ) (request : Request) (answer : Answer) (k : ℕ)
     → of_the_other m (line_done m t th x y tail h request answer k).thread ≡ of_the_other m th
 others_keep CcSynch t th x y tail h request answer k =
-    ccNumbers.agree (λ l. of_the_other CcSynch (ccEffect.executed th x tail h request answer l).thread) (λ l. of_the_other CcSynch th) refl refl (ccLines.line_of k)
+    CcNumbers.agree (λ l. of_the_other CcSynch (CcEffect.executed th x tail h request answer l).thread) (λ l. of_the_other CcSynch th) refl refl (CcLines.line_of k)
 others_keep DsmSynch t th x y tail h request answer k =
-    dsmNumbers.agree (λ l. of_the_other DsmSynch (dsmEffect.executed t th x y tail h request answer l).thread) (λ l. of_the_other DsmSynch th) refl refl
-    (dsmLines.line_of k)
+    DsmNumbers.agree (λ l. of_the_other DsmSynch (DsmEffect.executed t th x y tail h request answer l).thread) (λ l. of_the_other DsmSynch th) refl refl
+    (DsmLines.line_of k)
 
 -- an effect without it
 abbrev used_effect : Method → Effect → Effect
@@ -71,16 +71,16 @@ used_range DsmSynch last h th = refl
 
 used_points : (m : Method) (th : Thread) (k : ℕ) → line_points m (used_thread m th) k ≡ line_points m th k
 used_points CcSynch th k =
-    ccNumbers.agree (λ l. pointed (ccLines.row_of l).node (used_thread CcSynch th)) (λ l. pointed (ccLines.row_of l).node th) refl refl (ccLines.line_of k)
-used_points DsmSynch th k = dsmNumbers.agree (dsmLines.pointed (used_thread DsmSynch th)) (dsmLines.pointed th) refl refl (dsmLines.line_of k)
+    CcNumbers.agree (λ l. pointed (CcLines.row_of l).node (used_thread CcSynch th)) (λ l. pointed (CcLines.row_of l).node th) refl refl (CcLines.line_of k)
+used_points DsmSynch th k = DsmNumbers.agree (DsmLines.pointed (used_thread DsmSynch th)) (DsmLines.pointed th) refl refl (DsmLines.line_of k)
 
 used_writes : (m : Method) (th : Thread) (x : Node) (k : ℕ) → line_writes m (used_thread m th) x k ≡ line_writes m th x k
 used_writes CcSynch th x k = used_points CcSynch th k
-used_writes DsmSynch th x k = dsmNumbers.agree (dsmLines.target (used_thread DsmSynch th) x) (dsmLines.target th x) refl refl (dsmLines.line_of k)
+used_writes DsmSynch th x k = DsmNumbers.agree (DsmLines.target (used_thread DsmSynch th) x) (DsmLines.target th x) refl refl (DsmLines.line_of k)
 
 used_accesses : (m : Method) (th : Thread) (x : Node) (k : ℕ) → line_accesses m (used_thread m th) x k ≡ line_accesses m th x k
-used_accesses CcSynch th x k = ccNumbers.agree (ccLines.accesses_by (used_thread CcSynch th)) (ccLines.accesses_by th) refl refl (ccLines.line_of k)
-used_accesses DsmSynch th x k = dsmNumbers.agree (dsmLines.accesses (used_thread DsmSynch th) x) (dsmLines.accesses th x) refl refl (dsmLines.line_of k)
+used_accesses CcSynch th x k = CcNumbers.agree (CcLines.accesses_by (used_thread CcSynch th)) (CcLines.accesses_by th) refl refl (CcLines.line_of k)
+used_accesses DsmSynch th x k = DsmNumbers.agree (DsmLines.accesses (used_thread DsmSynch th) x) (DsmLines.accesses th x) refl refl (DsmLines.line_of k)
 
 used_event : (m : Method) (th : Thread) (x : Node) (tail : NodeId) (k : ℕ) → line_event m (used_thread m th) x tail k ≡ line_event m th x tail k
 used_event CcSynch th x tail k = refl
@@ -93,11 +93,11 @@ used_misses DsmSynch th x k = rw (used_accesses DsmSynch th x k)
 used_done : (m : Method) (t : ℕ) (th : Thread) (x y : Node) (tail : NodeId) (h : ℕ) (request : Request) (answer : Answer) (k : ℕ)
     → line_done m t (used_thread m th) x y tail h request answer k ≡ used_effect m (line_done m t th x y tail h request answer k)
 used_done CcSynch t th x y tail h request answer k =
-    ccNumbers.agree (ccEffect.executed (used_thread CcSynch th) x tail h request answer) (λ l. used_effect CcSynch (ccEffect.executed th x tail h request answer l))
-    refl refl (ccLines.line_of k)
+    CcNumbers.agree (CcEffect.executed (used_thread CcSynch th) x tail h request answer) (λ l. used_effect CcSynch (CcEffect.executed th x tail h request answer l))
+    refl refl (CcLines.line_of k)
 used_done DsmSynch t th x y tail h request answer k =
-    dsmNumbers.agree (dsmEffect.executed t (used_thread DsmSynch th) x y tail h request answer)
-    (λ l. used_effect DsmSynch (dsmEffect.executed t th x y tail h request answer l)) refl refl (dsmLines.line_of k)
+    DsmNumbers.agree (DsmEffect.executed t (used_thread DsmSynch th) x y tail h request answer)
+    (λ l. used_effect DsmSynch (DsmEffect.executed t th x y tail h request answer l)) refl refl (DsmLines.line_of k)
 
 -- and makes the same references
 used_referred : (m : Method) (n t : ℕ) (copies : List ℕ) (accesses : List Access)

@@ -12,10 +12,10 @@ use Rattle.machine.specs.declared.Thread.{Thread}
 use Rattle.machine.specs.declared.Event.{Event}
 use Rattle.machine.specs.declared.Effect.{Effect}
 use Rattle.machine.specs.Accesses.{Access, to_null, pointed}
-use Rattle.cc_lines.specs.Lines as ccLines
-use Rattle.cc_synch.specs.Effect as ccEffect
-use Rattle.dsm_lines.specs.Lines as dsmLines
-use Rattle.dsm_synch.specs.Effect as dsmEffect
+use Rattle.cc_lines.specs.Lines as CcLines
+use Rattle.cc_synch.specs.Effect as CcEffect
+use Rattle.dsm_lines.specs.Lines as DsmLines
+use Rattle.dsm_synch.specs.Effect as DsmEffect
 use Rattle.copies.specs.Remote.{Referred, referred_by}
 use Rattle.state.specs.declared.Counts.{Counts}
 use Rattle.state.specs.declared.State.{State}
@@ -23,42 +23,42 @@ use Rattle.step.specs.Entry.{zero_node, applied_at, more_of, plus, state_with, n
 
 -- line k of a method, run by a thread: the node that it points to, x in the rest
 abbrev pub line_points : Method → Thread → ℕ → NodeId
-line_points CcSynch th k = pointed (ccLines.row_of (ccLines.line_of k)).node th
-line_points DsmSynch th k = dsmLines.pointed th (dsmLines.line_of k)
+line_points CcSynch th k = pointed (CcLines.row_of (CcLines.line_of k)).node th
+line_points DsmSynch th k = DsmLines.pointed th (DsmLines.line_of k)
 
 -- the node that it writes, if it writes one
 abbrev pub line_writes : Method → Thread → Node → ℕ → NodeId
 line_writes CcSynch th x k = line_points CcSynch th k
-line_writes DsmSynch th x k = dsmLines.target th x (dsmLines.line_of k)
+line_writes DsmSynch th x k = DsmLines.target th x (DsmLines.line_of k)
 
 -- its accesses, in order
 abbrev pub line_accesses : Method → Thread → Node → ℕ → List Access
-line_accesses CcSynch th x k = ccLines.accesses_by th (ccLines.line_of k)
-line_accesses DsmSynch th x k = dsmLines.accesses th x (dsmLines.line_of k)
+line_accesses CcSynch th x k = CcLines.accesses_by th (CcLines.line_of k)
+line_accesses DsmSynch th x k = DsmLines.accesses th x (DsmLines.line_of k)
 
 -- what an entry of it is, where Tail is this
 abbrev pub line_event : Method → Thread → Node → NodeId → ℕ → Event
-line_event CcSynch th x tail k = ccLines.event_in (ccLines.row_of (ccLines.line_of k)).event x
-line_event DsmSynch th x tail k = dsmLines.event_in x (dsmLines.empties tail th.tmp) (dsmLines.line_of k)
+line_event CcSynch th x tail k = CcLines.event_in (CcLines.row_of (CcLines.line_of k)).event x
+line_event DsmSynch th x tail k = DsmLines.event_in x (DsmLines.empties tail th.tmp) (DsmLines.line_of k)
 
 -- what it does, as thread t, with y the node behind x
 abbrev pub line_done : Method → ℕ → Thread → Node → Node → NodeId → ℕ → Request → Answer → ℕ → Effect
-line_done CcSynch t th x y tail h request answer k = ccEffect.executed th x tail h request answer (ccLines.line_of k)
-line_done DsmSynch t th x y tail h request answer k = dsmEffect.executed t th x y tail h request answer (dsmLines.line_of k)
+line_done CcSynch t th x y tail h request answer k = CcEffect.executed th x tail h request answer (CcLines.line_of k)
+line_done DsmSynch t th x y tail h request answer k = DsmEffect.executed t th x y tail h request answer (DsmLines.line_of k)
 
 -- whether it would use what is not there: an empty req or ret, and in DSM-Synch null, where it follows it
 abbrev pub line_misses : Method → Thread → Node → ℕ → Bool
-line_misses CcSynch th x k = ccEffect.uses_empty x k
-line_misses DsmSynch th x k = dsmEffect.uses_empty x k || to_null (line_accesses DsmSynch th x k)
+line_misses CcSynch th x k = CcEffect.uses_empty x k
+line_misses DsmSynch th x k = DsmEffect.uses_empty x k || to_null (line_accesses DsmSynch th x k)
 
 -- whether it is 14 for a cause of its own, and whether because it meets null; what ranges and counts of a state add belongs to the single step
 abbrev pub line_out : Method → Thread → Node → ℕ → ℕ → Bool
-line_out CcSynch th x h k = ccEffect.takes_out th x h k
-line_out DsmSynch th x h k = dsmEffect.takes_out th x h k
+line_out CcSynch th x h k = CcEffect.takes_out th x h k
+line_out DsmSynch th x h k = DsmEffect.takes_out th x h k
 
 abbrev pub line_meets_null : Method → Thread → Node → ℕ → Bool
 line_meets_null CcSynch th x k = false
-line_meets_null DsmSynch th x k = dsmEffect.meets_null th x k
+line_meets_null DsmSynch th x k = DsmEffect.meets_null th x k
 
 -- the entry of a thread in a state
 module _ (m : Method) (s : State) (t : ThreadId) where

@@ -102,11 +102,11 @@ linking line pred = line ∷ 1 ∷ 1 ∷ 1 ∷ pred ∷ 255 ∷ 0 ∷ []
 
 -- no node waits; the next of node 3, and of node 2, those of the others null
 abbrev chained : ℕ → ℕ → List (ℕ × ℕ)
-chained of-3 of-2 = (0, 255) ∷ (0, 255) ∷ (0, of-2) ∷ (0, of-3) ∷ []
+chained of_3 of_2 = (0, 255) ∷ (0, 255) ∷ (0, of_2) ∷ (0, of_3) ∷ []
 
 -- all four wait; the next of node 3
 abbrev waiting : ℕ → List (ℕ × ℕ)
-waiting of-3 = (1, 255) ∷ (1, 255) ∷ (1, 255) ∷ (1, of-3) ∷ []
+waiting of_3 = (1, 255) ∷ (1, 255) ∷ (1, 255) ∷ (1, of_3) ∷ []
 
 abbrev figures : List ℕ → ℕ → List (ℕ × ℕ) → Figures
 figures thread tail nodes = record { thread = thread; tail = tail; nodes = nodes }
