@@ -11,7 +11,6 @@ use Rattle.object.specs.declared.Answer.TheVariants as Answer
 use Rattle.bench_file.specs.Layout.{Fields}
 use Rattle.bench_file.specs.Bytes.{low_first}
 use Rattle.machine.specs.declared.RetVal.{RetVal}
-use Rattle.machine.specs.declared.RetVal.TheVariants as RetVal
 use Rattle.step.specs.Entry.{one_if}
 use Rattle.history.specs.Entries.{Entry}
 use Rattle.history.specs.Terms.{Call, ret_mark, ret_value, record_of, number_at}

@@ -6,7 +6,6 @@ use mathlib.Core.List.{List, ◌∷◌}
 use lib.ListN.{length, take, drop, length-append}
 use Rattle.object.specs.declared.Answer.TheVariants as Answer
 use Rattle.machine.specs.declared.RetVal.{RetVal}
-use Rattle.machine.specs.declared.RetVal.TheVariants as RetVal
 use Rattle.cells.specs.declared.Word.{Word}
 use Rattle.cells.specs.declared.Word.TheVariants.{Queue, Stack, Counter, Done, Value, Empty, Full, NoAnswer, Hyphen, Returned, Open, Cc, Dsm}
 use Rattle.cells.specs.declared.Cell.{Cell}

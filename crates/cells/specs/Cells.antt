@@ -1,9 +1,7 @@
 -- The cells of a record: which number or word stands in each place. Document 01, 'The record of a call', and requests No. 1 and No. 3.
 use Rattle.std.specs.Prelude.{ℕ, Bool, cond, List, [], ◌∷◌, ◌++◌, get_or, eqb}
 use Rattle.object.specs.declared.Answer.{Answer}
-use Rattle.object.specs.declared.Answer.TheVariants as Answer
 use Rattle.machine.specs.declared.RetVal.{RetVal}
-use Rattle.machine.specs.declared.RetVal.TheVariants as RetVal
 use Rattle.history.specs.Terms.{no_thread, no_turn, no_entry, number_at}
 use Rattle.cells.specs.declared.Word.{Word}
 use Rattle.cells.specs.declared.Word.TheVariants.{Queue, Stack, Counter, Done, Value, Empty, Full, NoAnswer, Hyphen, Returned, Open, Cc, Dsm}

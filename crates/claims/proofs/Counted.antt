@@ -8,7 +8,6 @@ use mathlib.Core.List.{List, [], ◌∷◌}
 use lib.ListN.{length}
 use Rattle.object.specs.Each.{Each}
 use Rattle.machine.specs.declared.Method.{Method}
-use Rattle.machine.specs.declared.Method.TheVariants.{CcSynch, DsmSynch}
 use Rattle.machine.specs.declared.ThreadId.{ThreadId}
 use Rattle.machine.specs.Accesses.{Access, located}
 use Rattle.copies.specs.Remote.{at_hand, left_copies, referred_by}

@@ -12,7 +12,7 @@ use Rattle.object.specs.Each.{Each}
 use Rattle.bench_file.specs.Bytes.{InRange}
 use Rattle.object.proofs.Each.{each_take}
 use Rattle.machine.specs.declared.Method.{Method}
-use Rattle.machine.specs.declared.Method.TheVariants.{CcSynch, DsmSynch}
+use Rattle.machine.specs.declared.Method.TheVariants.{CcSynch}
 use Rattle.machine.specs.declared.ThreadId.{ThreadId}
 use Rattle.state.specs.declared.State.{State}
 use Rattle.step.specs.ByMethod.{entered_by, null_met_by}

@@ -27,7 +27,7 @@ use Rattle.cc_synch.specs.Effect.{takes_out}
 use Rattle.state.specs.declared.State.{State}
 use Rattle.state.specs.Range.{req_in_range}
 use Rattle.state.proofs.RangeFacts.{state_fits}
-use Rattle.step.specs.Entry.{named, line, row, node, event, request, applied, references, entered}
+use Rattle.step.specs.Entry.{named, line, row, node, request, applied, references, entered}
 use Rattle.step.proofs.Outcome.{node_fits, begun_few}
 use Rattle.cc_lines.proofs.Numbers.{by_last}
 use Rattle.step.proofs.Soundness.{Sound}

@@ -26,7 +26,7 @@ use Rattle.dsm_invariant.proofs.Follows.{each_after, each_run}
 use Rattle.dsm_invariant.proofs.Events.{Told, told}
 use Rattle.dsm_invariant.proofs.Threads.{last_line, at_below, one_turn, waits_served, known_at, turn_applied, no_turn, serving, turn_ends, not_given, last}
 use Rattle.history.specs.Entries.{Entry, Is}
-use Rattle.history.specs.Method.{Goes, begins, swaps, turns, applies, ends, Moves, leaving}
+use Rattle.history.specs.Method.{Goes, Moves, leaving}
 use Rattle.history.proofs.Phases.{comes_from, goes_to, goes_by}
 use Rattle.claims.proofs.Telling.{Tells}
 use Rattle.dsm_claims.proofs.Seen.{phase_of, seen_of, positions_of, phase_queued, phase_combines, phase_waits}

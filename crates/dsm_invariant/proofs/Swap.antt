@@ -10,7 +10,7 @@ use Rattle.machine.specs.declared.NodeId.{NodeId}
 use Rattle.dsm_lines.specs.Lines.{L7}
 use Rattle.machine.specs.Threads.{with_pred}
 use Rattle.invariant.specs.View.{View}
-use Rattle.dsm_invariant.specs.Stages.{wait, w8, stage_of, queued}
+use Rattle.dsm_invariant.specs.Stages.{wait, w8, stage_of}
 use Rattle.dsm_invariant.specs.Ledger.{Ledger, node_number, node_at, swapped}
 use Rattle.dsm_invariant.specs.View.{Does}
 use Rattle.dsm_invariant.specs.Control.{Tailed, empty, last, Link, none, Old, Pred, first, after, Seat, Real, ThreadFacts, Control}

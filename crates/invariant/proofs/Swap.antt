@@ -9,7 +9,7 @@ use Rattle.object.specs.declared.Request.{Request}
 use Rattle.object.specs.declared.Answer.{Answer}
 use Rattle.cc_lines.specs.Lines.{L5}
 use Rattle.machine.specs.Threads.{with_cur}
-use Rattle.invariant.specs.Stages.{wait, w6, queued}
+use Rattle.invariant.specs.Stages.{w6, queued}
 use Rattle.invariant.specs.Ledger.{Ledger, swapped}
 use Rattle.invariant.specs.View.{View, Does}
 use Rattle.invariant.specs.Control.{slot, slot_of_thread, slot_of_tail, held, Queued, WaitFacts, wait_row, DummyFacts, StageFacts, Seat, Control}
