@@ -1,16 +1,16 @@
 -- A loop that lays the records into a buffer, one a pass: the buffer after i of them. Assumes nothing.
-use Prim.Native.Nat.{ℕ, ◌+◌, ◌-◌, ◌*◌, ◌≤◌, ◌<◌}
+use Prim.Native.Nat.{ℕ, ◌+◌, ◌*◌, ◌≤◌, ◌<◌}
 use native.Mathlib.Nat.{zero-add}
 use native.Mathlib.Numerals.{add-one}
 use native.Mathlib.Omega.{arith}
 use mathlib.Core.Path.{◌≡◌, refl, ap, ◌∙◌}
 use mathlib.Core.List.{List, [], ◌∷◌, ◌++◌, map, append-nil}
-use lib.ListN.{length, get_or, take, drop}
+use lib.ListN.{length, get_or, take}
 use lib.Seq.{length-take-le, take-suc}
 use Rattle.bench_file.specs.Bytes.{low_first, each_bytes}
 use Rattle.bench_file.proofs.Each.{each_bytes_append, each_bytes_length}
 use Rattle.bench_writer.specs.Writer.{pasted}
-use Rattle.bench_writer.proofs.Pasted.{length_pasted, pasted_part, pasted_behind}
+use Rattle.bench_writer.proofs.Pasted.{length_pasted, pasted_behind}
 use Rattle.history.specs.Terms.{Call, record_length}
 use Rattle.kept.specs.declared.Kept.{Kept}
 use Rattle.kept.specs.Kept.{call_at, unkept}
@@ -58,12 +58,10 @@ module _ (kept : List Kept) where
           let known : i < length order = omega arith in
           rw (add-one, take-suc order i 0 known, each_bytes_append, one_record)
 
-      -- one record more, copied into the part of the buffer behind those laid
-      pub lays : (out bytes part : List ℕ) (i : ℕ) → RecordsLaid out i → i < count → bytes ≡ record_at kept (get_or order i 0)
-          → part ≡ take (length bytes) bytes ++ drop (length bytes) (take (length out - record_length * i) (drop (record_length * i) out))
-          → RecordsLaid (take (record_length * i) out ++ (part ++ drop (length out - record_length * i) (drop (record_length * i) out))) (i + 1)
-      lays out bytes part i before b here copied =
-          let laid = pasted_part out (record_length * i) bytes part (omega (arith, before.size)) copied in
+      -- one record more, copied into the buffer behind those laid
+      pub lays : (out bytes : List ℕ) {after : List ℕ} (i : ℕ) → RecordsLaid out i → i < count → bytes ≡ record_at kept (get_or order i 0)
+          → after ≡ pasted out (record_length * i) bytes → RecordsLaid after (i + 1)
+      lays out bytes i before b here laid =
           let more : records i ++ bytes ≡ records (i + 1) = rw here (one_more i b) in
           let is = pasted_behind old (records i) bytes (record_length * i) before.is (omega (arith, long i (omega arith))) laid ∙ ap (pasted old 0) more in
           record { below = omega arith; size = ap length is ∙ length_pasted old 0 (records (i + 1)) (omega (arith, long (i + 1) (omega arith))); is = is }

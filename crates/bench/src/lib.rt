@@ -97,7 +97,8 @@ fn put_records(
     while i < count {
         let place = order[i];
         let record = record_bytes(place, kept[place as usize]);
-        bytes::copy(&record, &mut out[kept::RECORD_LENGTH * i..]);
+        let at = kept::RECORD_LENGTH * i;
+        out[at..at + kept::RECORD_LENGTH].copy_from_slice(&record);
         i += 1;
     }
 }

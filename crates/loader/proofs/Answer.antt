@@ -5,7 +5,6 @@ use lib.ListN.{length}
 use Rattle.object.specs.Each.{sum_of}
 use Rattle.bench_file.specs.declared.Head.{Head}
 use Rattle.bench_file.specs.declared.Judged.{Judged}
-use Rattle.bench_file.specs.declared.Judged.TheVariants as Judged
 use Rattle.bench_file.specs.Layout.{Judgement, accepted, refused_by}
 use Rattle.bench_file.specs.Promise.{judged_as}
 use Rattle.bench_file.proofs.Judging.{apart, refused_number}
