@@ -1,4 +1,4 @@
-/* The CC-Synch step bench for programs in C: link with libccs.a (x86-64), which `rt staticlib ccs` builds.
+/* The CC-Synch step bench for programs in C: link with libccs.a (x86-64), which `rt lib` in crates/ccs builds.
  *
  * Every function takes any bytes, any numbers and any lent buffer, and answers 0 or the number of a refusal. Each comment says which numbers a
  * function answers, and what each buffer holds afterwards, refused or not. A file that is refused gives its refusal's number, and nothing is
