@@ -1,0 +1,14 @@
+-- i rows are laid, each behind its heading
+use Rattle.std.proofs.Common.{◌-◌, ◌≤◌, take}
+use Rattle.bench.specs.Run.{records_laid}
+use Rattle.cells.specs.Laid.{Laid}
+use Rattle.cells.specs.Text.{numbered}
+use Rattle.page.proofs.Printing.{record_headed}
+use Rattle.page.proofs.put_pages.Given as goal
+
+abbrev pub invariant-loop-i : goal.invariant-loop-i
+invariant-loop-i l = (l.i ≤ l.count) × Laid l.initial.out l.at (numbered record_headed 0 (take l.i (records_laid l.count l.records))) l.out l.next
+
+-- what is left of the records
+abbrev pub decreases-loop-i : goal.decreases-loop-i
+decreases-loop-i l = l.count - l.i
