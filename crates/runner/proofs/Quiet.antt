@@ -21,7 +21,7 @@ use Rattle.machine.specs.declared.Row.{Row}
 use Rattle.machine.specs.declared.Method.{Method}
 use Rattle.machine.specs.declared.Method.TheVariants.{CcSynch, DsmSynch}
 use Rattle.machine.specs.declared.ThreadId.{ThreadId}
-use Rattle.machine.specs.Accesses.{Access, read, whole}
+use Rattle.machine.specs.Accesses.{read, whole}
 use Rattle.machine.specs.Events.{same_event}
 use Rattle.machine.specs.Methods.{last_line}
 use Rattle.machine.specs.Threads.{keeping}
@@ -38,7 +38,7 @@ use Rattle.state.specs.declared.State.{State}
 use Rattle.state.specs.Range.{counts_in_range}
 use Rattle.state.proofs.RangeFacts.{CountsFit, counts_iff}
 use Rattle.step.specs.Entry.{zero_thread, zero_node, named, line, request, more_of, plus}
-use Rattle.step.specs.ByMethod.{line_points, line_writes, line_accesses, line_event, line_done, line_meets_null, points_to_by, node_by, behind_by, written_by, event_by, applied_by, effect_by, accesses_by, references_by, entered_by, null_met_by}
+use Rattle.step.specs.ByMethod.{line_points, line_writes, line_accesses, line_event, line_done, line_meets_null, points_to_by, node_by, behind_by, applied_by, entered_by, null_met_by}
 use Rattle.history.specs.Entries.{thread_id, remote_in}
 use Rattle.history.proofs.Sums.{cost_fits}
 use Rattle.claims.specs.Entries.{entry_by}

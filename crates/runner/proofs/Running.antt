@@ -44,7 +44,7 @@ use Rattle.state.specs.Shape.{Shaped}
 use Rattle.step.specs.Entry.{zero_node, served_by, applied_at, plus, wrapped, named, line}
 use Rattle.step.specs.ByMethod.{node_by, event_by, applied_by, effect_by, entered_by, out_by, null_met_by}
 use Rattle.step.proofs.Entering.{Called, made, at_points, is_node, is_event, is_applied, unwritten, remote_is, sums, line_out, line_through, entered_by_lem, fits_wrapped}
-use Rattle.history.specs.Entries.{Entry, thread_id, is, Is, how_many, remote_in}
+use Rattle.history.specs.Entries.{Entry, thread_id, Is, how_many, remote_in}
 use Rattle.history.specs.Terms.{no_call, no_turn}
 use Rattle.history.proofs.Told.{is_so}
 use Rattle.claims.specs.Entries.{assigned_by, entry_by, start_by, entries_from, meets_no_null, history_by}

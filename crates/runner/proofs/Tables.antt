@@ -15,7 +15,7 @@ use Rattle.bench_file.specs.Bytes.{InRange}
 use Rattle.machine.specs.declared.Method.{Method}
 use Rattle.machine.specs.declared.ThreadId.{ThreadId}
 use Rattle.machine.specs.declared.RetVal.{RetVal}
-use Rattle.machine.specs.declared.RetVal.TheVariants.{NoAnswer, Answered}
+use Rattle.machine.specs.declared.RetVal.TheVariants.{Answered}
 use Rattle.machine.specs.declared.Event.{Event}
 use Rattle.machine.specs.declared.Event.TheVariants.{Blank, CallBegins, Swaps, TurnBegins, Applies, Returns}
 use Rattle.machine.specs.Sizes.{most_calls, most_nodes}
