@@ -25,7 +25,7 @@ use Rattle.history.proofs.Sums.{one_each}
 use Rattle.history.proofs.Times.{number_below, number_none}
 use Rattle.claims.specs.Entries.{history_of, clear_of}
 use Rattle.claims.specs.Claims.{Claimed}
-use Rattle.claims.specs.Result.{Result, refused_result, result_as}
+use Rattle.claims.specs.Result.{Result, refused_result}
 use Rattle.dsm_claims.proofs.Either.{demand_3_of_files, claim_whole, all_swaps_asked, all_swaps_few}
 use Rattle.runner.specs.declared.Played.{Played}
 use Rattle.kept.specs.Kept.{place_of, call_at, kept_of, unkept}

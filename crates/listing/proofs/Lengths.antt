@@ -6,7 +6,6 @@ use mathlib.Core.List.{List, [], ◌∷◌, ◌++◌}
 use lib.ListN.{length, length-append}
 use lib.Dec.{eqb}
 use Rattle.object.specs.declared.Kind.{Kind}
-use Rattle.object.specs.declared.Kind.TheVariants as Kind
 use Rattle.bench_file.specs.declared.Head.{Head}
 use Rattle.machine.specs.declared.Method.{Method}
 use Rattle.machine.specs.declared.Method.TheVariants.{CcSynch, DsmSynch}

@@ -1,7 +1,6 @@
 -- The listing of a file: document 01, 'The record of a call', and request No. 6.
 use Rattle.std.specs.Prelude.{ℕ, cond, List, [], ◌∷◌, ◌++◌, map, eqb}
 use Rattle.object.specs.declared.Kind.{Kind}
-use Rattle.object.specs.declared.Kind.TheVariants as Kind
 use Rattle.bench_file.specs.declared.Head.{Head}
 use Rattle.bench_file.specs.Layout.{Judgement, accepted, refused_by}
 use Rattle.machine.specs.declared.Method.{Method}

@@ -14,7 +14,6 @@ use Rattle.object.proofs.Choice.{by_equal, by_order}
 use Rattle.bench_file.specs.Layout.{Fields}
 use Rattle.bench_file.specs.Bytes.{InRange}
 use Rattle.machine.specs.declared.RetVal.{RetVal}
-use Rattle.machine.specs.declared.RetVal.TheVariants as RetVal
 use Rattle.machine.specs.declared.Event.TheVariants.{Swaps, Applies}
 use Rattle.history.specs.Entries.{Entry, how_many}
 use Rattle.history.specs.Terms.{Call, no_call, call_of, swap_order, swap_at, servings, shown_of, no_thread, no_turn, cost_of, returned, ret_value, record_of}

@@ -13,7 +13,6 @@ use Rattle.object.specs.Each.{Each, every}
 use Rattle.object.proofs.Each.{each_get_or}
 use Rattle.object.proofs.Choice.{by_equal}
 use Rattle.machine.specs.declared.RetVal.{RetVal}
-use Rattle.machine.specs.declared.RetVal.TheVariants as RetVal
 use Rattle.history.specs.Terms.{no_thread, no_turn}
 use Rattle.cells.specs.declared.Word.{Word}
 use Rattle.cells.specs.declared.Word.TheVariants.{Queue, Stack, Counter, Done, Value, Empty, Full, NoAnswer, Hyphen, Returned, Open, Cc, Dsm}

@@ -1,6 +1,6 @@
 -- The pages of a run, or the number of a refusal. Assumes nothing.
 use Rattle.std.proofs.Common.{◌≡◌, length, refl, arith, rules}
-use Rattle.bench.proofs.Enough.{Ran, ran, refusal_is}
+use Rattle.bench.proofs.Enough.{ran, refusal_is}
 use Rattle.bench.specs.Run.{enough_for_records}
 use Rattle.bench_file.proofs.Each.{each_at}
 use Rattle.bench_file.proofs.Judging.{judges}
