@@ -139,11 +139,14 @@ fn is_mark(s: &[u8]) -> bool
     s[2] == 0x53
 }
 
+// The mark's bytes.
+const MARK: usize = 3;
+
 // Mark and version.
 fn read_start(s: &[u8]) -> StartRead
     ensures { start_read s.now result ≡ start_reader s.now }
 {
-    if s.len() < 3 {
+    if s.len() < MARK {
         return StartRead::Refused(1);
     }
     if !is_mark(s) {

@@ -4,29 +4,29 @@ use Rattle.bench_file.specs.Layout.{start_reader}
 use Rattle.bench_file.proofs.Reading.{field_whole, field_cut, field_at, field_cut_at}
 use Rattle.bench_file.proofs.read_start.Goals as goal
 
-pub returns-then-s-lt3 : goal.returns-then-s-lt3
+pub returns-then-s-lt-MARK : goal.returns-then-s-lt-MARK
 unfolding start_reader
-returns-then-s-lt3 c = simp (field_cut 3 c.args.s.now c.if-s-lt3.true)
+returns-then-s-lt-MARK c = simp (field_cut 3 c.args.s.now c.if-s-lt-MARK.true)
 
 pub returns-then-not-is_mark : goal.returns-then-not-is_mark
 unfolding start_reader
 returns-then-not-is_mark c =
-    simp (field_whole 3 c.args.s.now c.if-s-lt3.false, sym c.is_mark.ensures ∙ c.if-not-is_mark.true)
+    simp (field_whole 3 c.args.s.now c.if-s-lt-MARK.false, sym c.is_mark.ensures ∙ c.if-not-is_mark.true)
 
 pub returns-then-s-lt5 : goal.returns-then-s-lt5
 unfolding start_reader
 returns-then-s-lt5 c =
     let s = c.args.s.now in
-    simp (field_whole 3 s c.if-s-lt3.false, sym c.is_mark.ensures ∙ c.if-not-is_mark.false, field_cut_at s 3 2 c.if-s-lt3.false c.if-s-lt5.true)
+    simp (field_whole 3 s c.if-s-lt-MARK.false, sym c.is_mark.ensures ∙ c.if-not-is_mark.false, field_cut_at s 3 2 c.if-s-lt-MARK.false c.if-s-lt5.true)
 
 pub returns-then-version_known : goal.returns-then-version_known
 unfolding start_reader
 returns-then-version_known c =
     let s = c.args.s.now in
-    simp (field_whole 3 s c.if-s-lt3.false, sym c.is_mark.ensures ∙ c.if-not-is_mark.false, field_at s 3 2 c.if-s-lt5.false, ← c.number2-version.ensures.0, sym c.version_known.ensures ∙ c.if-version_known.true)
+    simp (field_whole 3 s c.if-s-lt-MARK.false, sym c.is_mark.ensures ∙ c.if-not-is_mark.false, field_at s 3 2 c.if-s-lt5.false, ← c.number2-version.ensures.0, sym c.version_known.ensures ∙ c.if-version_known.true)
 
 pub returns : goal.returns
 unfolding start_reader
 returns c =
     let s = c.args.s.now in
-    simp (field_whole 3 s c.if-s-lt3.false, sym c.is_mark.ensures ∙ c.if-not-is_mark.false, field_at s 3 2 c.if-s-lt5.false, ← c.number2-version.ensures.0, sym c.version_known.ensures ∙ c.if-version_known.false)
+    simp (field_whole 3 s c.if-s-lt-MARK.false, sym c.is_mark.ensures ∙ c.if-not-is_mark.false, field_at s 3 2 c.if-s-lt5.false, ← c.number2-version.ensures.0, sym c.version_known.ensures ∙ c.if-version_known.false)
