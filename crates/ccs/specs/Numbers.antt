@@ -3,7 +3,6 @@ use Rattle.std.specs.Prelude.{ℕ, ◌≡◌, List, [], ◌∷◌, get_or, repli
 use Rattle.object.specs.Paper.{kind_number}
 use Rattle.machine.specs.Methods.{method_number}
 use Rattle.bench_file.specs.declared.Judged.{Judged}
-use Rattle.bench_file.specs.declared.Judged.TheVariants as Judged
 use Rattle.bench_file.specs.Layout.{judge_of}
 use Rattle.bench_file.specs.Promise.{judged_as, judged_refusal, Judges}
 use Rattle.bench_writer.specs.declared.Written.{Written}

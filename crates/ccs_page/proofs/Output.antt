@@ -1,7 +1,7 @@
 -- What the page service and the line of a refusal leave is what the program prints. Assumes a buffer that is long enough for every file's pages.
 use Prim.Native.Nat.{ℕ, ◌≤◌}
 use native.Mathlib.Omega.{arith}
-use mathlib.Core.Path.{◌≡◌, refl, sym, ap, ◌∙◌}
+use mathlib.Core.Path.{◌≡◌, refl, ap, ◌∙◌}
 use mathlib.Core.List.{List}
 use lib.ListN.{length, take}
 use Rattle.object.proofs.Choice.{by_test}
