@@ -1,15 +1,16 @@
--- A loop that tests the first places of a list, one a pass, keeps what is left to test: laws for a pass and for a test that fails.
+-- A loop that tests the first places of a list, one a pass, keeps what is left to test: laws for a pass, a test that fails and the loop's end.
 -- Assumes nothing.
 use Prim.Native.Nat.{ℕ, ◌+◌, ◌≤◌, ◌<◌}
 use native.Mathlib.Numerals.{add-one}
+use native.Mathlib.Decide.{dec_le}
 use native.Mathlib.Omega.{arith}
 use mathlib.Core.Path.{◌≡◌, refl, sym, ap, ◌∙◌}
 use mathlib.Core.Bool.{Bool, true, false, ◌&&◌, and-eq-true_iff}
 use mathlib.Core.List.{List, [], ◌∷◌}
-use lib.ListN.{length, get_or, take, drop, length-take}
+use lib.ListN.{length, get_or, take, drop, length-take, drop_of_length-le}
 use lib.Seq.{drop-cons, get_or-take, take-add, drop_at, length-take-le}
 use lib.Dec.{ltb}
-use borrow.Author.Tests.{ltb-true}
+use borrow.Author.Tests.{lt-ltb, ltb-true, ltb-false}
 use Rattle.object.specs.declared.Kind.{Kind}
 use Rattle.object.specs.Each.{every}
 use Rattle.machine.specs.declared.Thread.{Thread}
@@ -55,6 +56,21 @@ module _ {A : Type 0} {w : Walk A} {l : List A} {n : ℕ} {whole : Bool} {i : �
 
     pub fails : b ≡ false → false ≡ whole
     fails t = sym (next ∙ rw t)
+
+  ends : length (take n l) ≤ i → true ≡ whole
+  ends h = sym (left.same ∙ ap (w.from i) (drop_of_length-le (take n l) h) ∙ w.none i)
+
+  pub ends_full : n ≤ i → true ≡ whole
+  ends_full h = ends (rw length-take (omega arith))
+
+  pub ends_either : (m : ℕ) → length l ≤ m → ltb i n && ltb i m ≡ false → true ≡ whole
+  ends_either m k t = elim (dec_le n i) [
+    | yes h ↦ ends_full h
+    | no h ↦
+        let e : ltb i n ≡ true = lt-ltb i n (omega (arith, h)) in
+        let g : m ≤ i = ltb-false i m (rw e at t) in
+        ends (rw length-take (omega arith))
+  ]
 
 -- a loop's test of two bounds
 pub below_both : (i n m : ℕ) → ltb i n && ltb i m ≡ true → (i < n) × (i < m)
