@@ -16,6 +16,7 @@ TOKEN = re.compile(r"(?<![\w'-])[A-Za-z_][\w']*(?:-[\w'][\w']*)*")
 NAMED = {
     "each-getD": "each_get_or",
     "each-getD-or": "each_get_or_default",
+    "in-range": "in_range",
     "began-at": "began_entry",
     "returned-at": "returned_entry",
     "served-in": "served_turn",

@@ -30,7 +30,7 @@ use Rattle.bench.proofs.InPlace.{laid_back}
 pub record Ran (bytes records : List ℕ) (counts : Counts) : Type 0 where
   pub fields : Fields
   pub judged : judge_of bytes ≡ accepted fields
-  pub in_range_lem : InRange fields
+  pub in_range : InRange fields
   pub clear : clear_of fields ≡ true
   pub counted : counts ≡ counts_of (history_of fields)
   pub few : counts.records ≤ most_calls
@@ -48,12 +48,12 @@ by_refusal shown refused own null (accepted f) some = by_test (clear_of f) (λ z
 by_refusal shown refused own null (refused_by number) some = own number
 
 module _ {bytes records : List ℕ} {answer : RunAnswer} (runs : Runs bytes (replicate enough_for_records 0) records answer) {r : Judged} (judges : Judges bytes r) where
-  in_range_lem : (f : Fields) → judge_of bytes ≡ accepted f → InRange f
-  in_range_lem f e = ((judges.exactly f).0 e).0
+  in_range : (f : Fields) → judge_of bytes ≡ accepted f → InRange f
+  in_range f e = ((judges.exactly f).0 e).0
 
   -- so many bytes are enough
   result_of : (j : Judgement) → judge_of bytes ≡ j → result_in enough_for_records j ≡ result_as j
-  result_of (accepted f) e = rw (le-ltb enough_for_records (record_length * sum_of length f.rows) (omega (arith, requests_few f (in_range_lem f e))))
+  result_of (accepted f) e = rw (le-ltb enough_for_records (record_length * sum_of length f.rows) (omega (arith, requests_few f (in_range f e))))
   result_of (refused_by number) e = refl
 
   result : result_in enough_for_records (judge_of bytes) ≡ result_as (judge_of bytes)
@@ -88,10 +88,10 @@ module _ {bytes records : List ℕ} {answer : RunAnswer} (runs : Runs bytes (rep
     ran_of = record {
       fields = f;
       judged = judged;
-      in_range_lem = in_range_lem f judged;
+      in_range = in_range f judged;
       clear = clear;
       counted = counted;
-      few = omega (arith, ap (λ (c : Counts). c.records) counted, all_swaps_few f.head.method f (in_range_lem f judged) clear);
+      few = omega (arith, ap (λ (c : Counts). c.records) counted, all_swaps_few f.head.method f (in_range f judged) clear);
       in_buffer = in_buffer;
     }
 

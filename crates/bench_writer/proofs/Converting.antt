@@ -69,8 +69,8 @@ goes_through bytes f wanted room e known first there is h =
 
 -- an accepted file
 module _ (bytes : List ℕ) (f : Fields) (p : Each Byte bytes) (e : judge_of bytes ≡ accepted f) where
-  in_range_lem : InRange f
-  in_range_lem = accepted_in_range bytes f p e
+  in_range : InRange f
+  in_range = accepted_in_range bytes f p e
 
   laid : bytes ≡ head_bytes f.head ++ behind f
   laid = sym (writes_back bytes f p e) ∙ head_then f
@@ -89,13 +89,13 @@ module _ (bytes : List ℕ) (f : Fields) (p : Each Byte bytes) (e : judge_of byt
   restores : (version : ℕ) (other : List ℕ) → judge_of other ≡ accepted (in_version version f) → (room : ℕ) → length bytes ≤ room
       → convert_of other f.head.version room ≡ writing bytes
   restores version other o room h =
-      goes_through other (in_version version f) f.head.version room o in_range_lem.head.version in_range_lem.head.method bytes (writes_back bytes f p e) h
+      goes_through other (in_version version f) f.head.version room o in_range.head.version in_range.head.method bytes (writes_back bytes f p e) h
 
   -- in the other version it is these bytes, one more or one less
   as_second_lem : f.head.version ≡ 1 → (bytes_of (in_version 2 f) ≡ as_second bytes) × (length (as_second bytes) ≡ length bytes + 1)
   unfolding low_first
   as_second_lem one =
-      let is : bytes_of (in_version 2 f) ≡ as_second bytes = rw (laid, head_then (in_version 2 f), one, in_range_lem.head.method one) in
+      let is : bytes_of (in_version 2 f) ≡ as_second bytes = rw (laid, head_then (in_version 2 f), one, in_range.head.method one) in
       (is, omega (arith, ap length is, ap length (writes_back bytes f p e), length_bytes (in_version 2 f), length_bytes f, ap head_length one))
 
   as_first_lem : f.head.version ≡ 2 → (bytes_of (in_version 1 f) ≡ as_first bytes) × (length (as_first bytes) + 1 ≡ length bytes)
@@ -145,7 +145,7 @@ module _ (bytes : List ℕ) (wanted room : ℕ) (p : Each Byte bytes) where
       record {
         fields = f;
         judged = e;
-        fits = in_version_lem wanted f (in_range_lem bytes f p e) known first;
+        fits = in_version_lem wanted f (in_range bytes f p e) known first;
         is = rw allowed (fitted_came room (bytes_of (in_version wanted f)) fits);
       }
   judged_came (refused_by refusal) e known z = absurd (omega (arith, refused_tabled bytes refusal e))

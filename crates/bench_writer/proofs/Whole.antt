@@ -25,7 +25,6 @@ use Rattle.bench_file.proofs.Methods.{number_of_method}
 use Rattle.bench_file.proofs.Size.{request_length}
 use Rattle.bench_file.proofs.Codec.{several_codec}
 use Rattle.bench_file.proofs.RoundTrip.{capacity_range, request_codec, accepted_in_range, writes_back}
-use Rattle.bench_writer.specs.Buffer.{writing}
 use Rattle.bench_writer.specs.Writer.{fitted, given_from, total, dealt, number_rules, count_rules, size_rules, entry_rules, requests_reader, given_reader, given_of, write_of}
 use Rattle.bench_writer.proofs.Filling.{fitted_whole}
 use Rattle.bench_writer.proofs.Methods.{method_most}
@@ -115,6 +114,6 @@ module _ (f : Fields) (g : InRange f) where
 
 -- the fields of an accepted file are written as that file
 pub written_back : (bytes : List ℕ) (f : Fields) (room : ℕ) → Each Byte bytes → judge_of bytes ≡ accepted f → length bytes ≤ room
-    → write_of (given_from f) room ≡ writing bytes
+    → write_of (given_from f) room ≡ record { refusal = 0; bytes = bytes }
 written_back bytes f room p e h =
     written_whole f (accepted_in_range bytes f p e) room ∙ rw (writes_back bytes f p e) (fitted_whole room bytes h)

@@ -17,7 +17,7 @@ use Rattle.bench_file.specs.Reading.{Outcome, refused, read, after, rules, sever
 use Rattle.bench_file.specs.Layout.{Fields, Judgement, accepted, refused_by, judged, judge_of, request_reader}
 use Rattle.object.specs.Each.{Each, sum_of}
 use Rattle.bench_file.specs.Bytes.{request_bytes, each_bytes, row_bytes, bytes_of, Byte, RequestInRange, RowInRange, CapacityInRange, InRange}
-use Rattle.bench_writer.specs.Buffer.{writing, refused_writing, Fills}
+use Rattle.bench_writer.specs.Buffer.{Fills}
 use Rattle.bench_writer.specs.Writer.{Writing, Given, total, dealt, interleaved, raw_bytes, most_method, number_rules, count_rules, size_rules, entry_rules, requests_reader, given_reader, given_of, written_as, write_of, WritesAs}
 use Rattle.bench_writer.specs.declared.Written.{Written}
 use Rattle.object.proofs.Each.{each_take, each_drop, each_map, every_each}
@@ -27,7 +27,7 @@ use Rattle.bench_file.proofs.Codec.{came, several_codec}
 use Rattle.bench_file.proofs.Methods.{method_of_number}
 use Rattle.bench_file.proofs.Size.{request_length}
 use Rattle.bench_file.proofs.Numbered.{Numbered, done_numbered, after_numbered, several_numbered, request_numbered}
-use Rattle.bench_writer.proofs.Filling.{fitted_whole, fitted_came, filled, filled_as}
+use Rattle.bench_writer.proofs.Filling.{fitted_whole, fitted_came, fills, filled, filled_as}
 use Rattle.bench_writer.proofs.Methods.{method_known, method_first}
 use Rattle.bench_writer.proofs.Rules.{rules_kept, rules_numbered}
 use Rattle.bench_writer.proofs.Whole.{written_back}
@@ -193,15 +193,15 @@ written_came g room (accepted f) e h = (f, refl, ap (λ (w : Writing). w.bytes) 
 written_came g room (refused_by refusal) e h = absurd (given_never g (e ∙ ap refused_by h))
 
 -- what is written, by what is given and the buffer's size
-pub write_refused : (g : Given) (room refusal : ℕ) → given_reader g g.requests ≡ refused refusal → write_of g room ≡ refused_writing refusal
+pub write_refused : (g : Given) (room refusal : ℕ) → given_reader g g.requests ≡ refused refusal → write_of g room ≡ record { refusal = refusal; bytes = [] }
 unfolding write_of given_of
 write_refused g room refusal e = rw e
 
-pub write_short : (g : Given) (f : Fields) (room : ℕ) → Takes g f → room < length (raw_bytes g) → write_of g room ≡ refused_writing 13
+pub write_short : (g : Given) (f : Fields) (room : ℕ) → Takes g f → room < length (raw_bytes g) → write_of g room ≡ record { refusal = 13; bytes = [] }
 unfolding write_of
 write_short g f room t h = rw (t.fields, t.bytes, lt-leb _ _ h)
 
-pub write_whole : (g : Given) (f : Fields) (room : ℕ) → Takes g f → length (raw_bytes g) ≤ room → write_of g room ≡ writing (raw_bytes g)
+pub write_whole : (g : Given) (f : Fields) (room : ℕ) → Takes g f → length (raw_bytes g) ≤ room → write_of g room ≡ record { refusal = 0; bytes = raw_bytes g }
 unfolding write_of
 write_whole g f room t h = rw (t.fields, t.bytes, fitted_whole _ _ h)
 
@@ -213,16 +213,19 @@ written_accepted g room p h =
     (f, e, rw b (reads_back f (given_in_range g f p e)))
 
 -- the whole promise, from what is written and the buffer after it
-pub writes : (g : Given) (answer : Written) (before after : List ℕ) → Each Byte g.requests → Fills (write_of g (length before)) answer before after
+pub writes : (g : Given) (answer : Written) (before after : List ℕ) {w : Writing} → Each Byte g.requests → write_of g (length before) ≡ w
+    → answer.refusal ≡ w.refusal → answer.length ≡ length w.bytes → after ≡ w.bytes ++ drop (length w.bytes) before
     → WritesAs g answer before after
-writes g answer before after p fills = record {
-  refusal = fills.refusal;
-  count = fills.count;
-  buffer = fills.buffer;
-  meant = λ z.
-      let (f, given, judged) = written_accepted g (length before) p (sym fills.refusal ∙ z) in
-      (f, given, rw (filled fills) judged);
-  unchanged = λ bytes f bs a given room.
-      let back = filled_as fills (rw given (written_back bytes f (length before) bs a room)) in
-      (back.refusal, back.count, back.buffer);
-}
+writes g answer before after p e refusal count buffer =
+    let whole : Fills (write_of g (length before)) answer before after = fills e refusal count buffer in
+    record {
+      refusal = whole.refusal;
+      count = whole.count;
+      buffer = whole.buffer;
+      meant = λ z.
+          let (f, given, judged) = written_accepted g (length before) p (sym whole.refusal ∙ z) in
+          (f, given, rw (filled whole) judged);
+      unchanged = λ bytes f bs a given room.
+          let back = filled_as whole (rw given (written_back bytes f (length before) bs a room)) in
+          (back.refusal, back.count, back.buffer);
+    }

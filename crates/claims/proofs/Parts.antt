@@ -206,7 +206,7 @@ module _ (Paid : Bool → ℕ → ℕ → Type 0) (m : Method) (f : Fields) (fit
   done_counts i b mark =
       rw (in_record 4 4 (λ c. ret_value (shown_of c (servings history)).ret) (λ c. value_bytes history c (value_fits c)) i b)
       (shown_fits (λ r. ret_mark r ≡ 0 → (1 ≤ ret_value r) × (ret_value r ≤ f.head.capacity)) (λ e. absurd (omega arith))
-      (λ a h. count_by_mark f.head.capacity a h.in_range_lem) (swap_at history i)
+      (λ a h. count_by_mark f.head.capacity a h.in_range) (swap_at history i)
       (sym (in_record 2 1 (λ c. ret_mark (shown_of c (servings history)).ret) (mark_byte history) i b) ∙ mark))
 
   began_entry : (i : ℕ) → i < how_many Swaps history → number_at (get_or (records_of history) i []) 16 4 ≡ began_at (swap_at history i) history

@@ -41,8 +41,8 @@ module _ (t : ℕ) (th : Thread) (x : Node) (h line : ℕ) where
       (leb-false 16 t there.0, omega (arith, ltb-false 1 th.toggle there.1))
 
   -- in a state in range a line is refused only for what it takes out
-  pub in_range_lem : t < 16 → th.toggle ≤ 1 → is_refused t th x h line ≡ takes_out th x h line
-  in_range_lem below place =
+  pub in_range : t < 16 → th.toggle ≤ 1 → is_refused t th x h line ≡ takes_out th x h line
+  in_range below place =
       let there : no_node t th line ≡ false = rw (lt-leb 16 t below, le-ltb 1 th.toggle place) (and-false (eqb line 2)) in
       rw there (or-false (takes_out th x h line))
 
@@ -74,7 +74,7 @@ module _ (t : ℕ) (th : Thread) (x y : Node) (tail : NodeId) (h : ℕ) (request
   -- in a state in range
   module _ (below : t < 16) (place : th.toggle ≤ 1) where
     abbrev same : is_refused t th x h line ≡ takes_out th x h line
-    same = in_range_lem t th x h line below place
+    same = in_range t th x h line below place
 
     -- a line that takes nothing out does what Algorithm 2 does
     pub goes_ahead : takes_out th x h line ≡ false → effect_of t th x y tail h request answer ≡ executed t th x y tail h request answer (line_of line)

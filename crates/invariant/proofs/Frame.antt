@@ -164,8 +164,8 @@ module _ {n h : ℕ} {v v' : View} {g : Ledger} {t : ℕ} {l : Line} {request : 
   far a d r b turn stays at counts there facts =
       frame g.linked a d r b counts.order counts.released counts.turned (λ j z. z) (λ q k. stays) (facts _ mine_queued) rely out_now
     where
-      in_range_lem : t ≤ n
-      in_range_lem = omega (arith, run.below)
+      in_range : t ≤ n
+      in_range = omega (arith, run.below)
 
       has_turn : T (at_turn (slot n v t).stage)
       has_turn = rw (stage_at c t _ run.below run.stands) turn
@@ -193,11 +193,11 @@ module _ {n h : ℕ} {v v' : View} {g : Ledger} {t : ℕ} {l : Line} {request : 
 
       mine_queued : Queued (going g g.linked a d r b) t (v.thread t).cur.0 (v'.node mine)
       mine_queued =
-          let f = queued_slot c t in_range_lem in_turn in
+          let f = queued_slot c t in_range in_turn in
           record {
             who = f.who;
             node = f.node ∙ ap (λ x. x.cur) (slot_thread n v t run.below);
-            fields = rw held_mine at (fields_now t in_range_lem in_turn);
+            fields = rw held_mine at (fields_now t in_range in_turn);
           }
 
       out_now : Outs
@@ -210,7 +210,7 @@ module _ {n h : ℕ} {v v' : View} {g : Ledger} {t : ℕ} {l : Line} {request : 
         at = refl;
         who = refl;
         linked = refl;
-        still = λ z. absurd (e (seats_apart c u t k in_range_lem q in_turn (z ∙ sym (turn_at c t in_range_lem has_turn))));
+        still = λ z. absurd (e (seats_apart c u t k in_range q in_turn (z ∙ sym (turn_at c t in_range has_turn))));
         even = counts.even _;
         top = λ z. refl;
         fields = fields_now u k q;

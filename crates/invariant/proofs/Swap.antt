@@ -79,8 +79,8 @@ module _ {n h : ℕ} {v v' : View} {g : Ledger} {t : ℕ} {request : Request} {a
       (λ k. rw (tail_now, exchange_second t n apart_tail) (sym (holds c t 5 run.below run.stands)))
       (λ u e z k. rw (exchange_other t n apart_tail u e z) (ap held (other_now u k e z)))
 
-  in_range_lem : (u : ℕ) → u ≤ n → exchange t n u ≤ n
-  in_range_lem =
+  in_range : (u : ℕ) → u ≤ n → exchange t n u ≤ n
+  in_range =
       by_two (λ u. u ≤ n → exchange t n u ≤ n) t n
       (λ k. rw (exchange_first t n apart_tail) (omega arith))
       (λ k. rw (exchange_second t n apart_tail) (omega (arith, run.below)))
@@ -167,9 +167,9 @@ module _ {n h : ℕ} {v v' : View} {g : Ledger} {t : ℕ} {request : Request} {a
   swap = record {
     order = search (arith, c.order);
     lines = λ u k. by_equal u t (λ e. rw (e, run.mine) tt) (λ e. rw (run.others u e) (c.lines u k));
-    nodes = λ u k. rw (held_now u k) (c.nodes _ (in_range_lem u k));
+    nodes = λ u k. rw (held_now u k) (c.nodes _ (in_range u k));
     apart = λ u w k j e. sym (exchange_twice t n apart_tail u)
-        ∙ ap (exchange t n) (c.apart _ _ (in_range_lem u k) (in_range_lem w j) (sym (held_now u k) ∙ e ∙ held_now w j))
+        ∙ ap (exchange t n) (c.apart _ _ (in_range u k) (in_range w j) (sym (held_now u k) ∙ e ∙ held_now w j))
         ∙ exchange_twice t n apart_tail w;
     seat = seat_now;
     facts =

@@ -29,7 +29,7 @@ module _ {bytes records : List ℕ} {counts : Counts} (ran : Ran bytes records c
   head_is = head_of ran.fields (is ∙ ap judged_as ran.judged)
 
   pub one_digit : head.version < 10
-  one_digit = omega (arith, ap (λ (h : Head). h.version) head_is, ran.in_range_lem.head.version)
+  one_digit = omega (arith, ap (λ (h : Head). h.version) head_is, ran.in_range.head.version)
 
   -- its words are the listing
   run_listed : head_line head counts ++ numbered record_line 0 (records_laid counts.records records) ≡ listing_of (judge_of bytes)

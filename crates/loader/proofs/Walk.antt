@@ -61,8 +61,8 @@ module _ (f : Fields) (fits : InRange f) (bytes : List ℕ) (i at : ℕ) (left :
   there : i < length f.rows
   there = rw fits.threads h
 
-  in_range_lem : RowInRange f.head.object (row_at f i)
-  in_range_lem = each_get_or (RowInRange f.head.object) f.rows i [] fits.rows there
+  in_range : RowInRange f.head.object (row_at f i)
+  in_range = each_get_or (RowInRange f.head.object) f.rows i [] fits.rows there
 
   here : drop at bytes ≡ length (row_at f i) ∷ (each_bytes request_bytes (row_at f i) ++ behind_row f i)
   unfolding each_bytes
@@ -78,7 +78,7 @@ module _ (f : Fields) (fits : InRange f) (bytes : List ℕ) (i at : ℕ) (left :
   row_length = each_bytes_length request_bytes 5 request_length (row_at f i)
 
   room : RowInside bytes i at
-  room = rw count_here (omega (arith, rw length-drop at (simp length-append at (ap length here)), row_length, in_range_lem.count, fits.head.n))
+  room = rw count_here (omega (arith, rw length-drop at (simp length-append at (ap length here)), row_length, in_range.count, fits.head.n))
 
   left_next : drop (at + (1 + 5 * get_or bytes at 0)) bytes ≡ behind_row f i
   left_next =
@@ -96,10 +96,10 @@ module _ (f : Fields) (fits : InRange f) (bytes : List ℕ) (i at : ℕ) (left :
 
   requests_next : sets (filled most_calls zero_slot (rows_of (take i f.rows))) (16 * i) (slots_in (get_or bytes at 0) (drop (at + 1) bytes)) ≡ filled most_calls zero_slot (rows_of (take (i + 1) f.rows))
   requests_next =
-      rw (requests_here, count_here, slots_decoded f.head.object (row_at f i) (behind_row f i) in_range_lem.requests, add-one, take-suc f.rows i [] there, rows_snoc)
+      rw (requests_here, count_here, slots_decoded f.head.object (row_at f i) (behind_row f i) in_range.requests, add-one, take-suc f.rows i [] there, rows_snoc)
       (sets_filled zero_slot most_calls (16 * i) (rows_of (take i f.rows)) (map slot_of (row_at f i)) (16 - length (map slot_of (row_at f i)))
       (length_rows f.head.object (take i f.rows) (each_take (RowInRange f.head.object) i f.rows fits.rows) ∙ rw so_far)
-      (rw length-map (omega (arith, in_range_lem.count, fits.head.n))))
+      (rw length-map (omega (arith, in_range.count, fits.head.n))))
 
 -- the walk: at byte `at` row i begins, and the rows before it are laid
 pub record Walk (bytes : List ℕ) (head : Head) (i at : ℕ) (counts : List ℕ) (requests : List Slot) : Type 0 where

@@ -25,7 +25,7 @@ record HoldsFitting (p : Plain) : Type 0 where
 -- an answer in range whose value fits
 pub record AnswerFits (capacity : ℕ) (a : Answer) : Type 0 where
   pub value : answer_value a < 2 ^ 32
-  pub in_range_lem : answer_in_range capacity a ≡ true
+  pub in_range : answer_in_range capacity a ≡ true
 
 -- the answer is such a one, and what is held afterwards fits
 record Responds (capacity : ℕ) (r : Response) : Type 0 where
@@ -40,10 +40,10 @@ module _ (capacity : ℕ) (small : Fits capacity) (p : Plain) (h : HoldsFitting 
   changed a values f e = record { answer = f; after = record { values = e; sum = h.sum } }
 
   value_given : (v : ℕ) → Fits v → AnswerFits capacity (Value v)
-  value_given v f = record { value = f; in_range_lem = refl }
+  value_given v f = record { value = f; in_range = refl }
 
   empty_fits : Responds capacity (respond Empty p)
-  empty_fits = record { answer = record { value = omega arith; in_range_lem = refl }; after = h }
+  empty_fits = record { answer = record { value = omega arith; in_range = refl }; after = h }
 
   put_fits : (v : ℕ) → Fits v → Responds capacity (plain_put capacity v p)
   put_fits v f =
@@ -52,9 +52,9 @@ module _ (capacity : ℕ) (small : Fits capacity) (p : Plain) (h : HoldsFitting 
       let count = length (p.values ++ v ∷ []) in
       let good : answer_in_range capacity (Done count) ≡ true = rw t at (put_in_range capacity v p) in
       let fits : Fits count = omega (arith, ((within_range _ count capacity).0 good).1) in
-      changed (Done count) _ (record { value = fits; in_range_lem = good })
+      changed (Done count) _ (record { value = fits; in_range = good })
       (each_append Fits p.values (v ∷ []) h.values (f, tt)))
-      (λ t. record { answer = record { value = omega arith; in_range_lem = refl }; after = h })
+      (λ t. record { answer = record { value = omega arith; in_range = refl }; after = h })
 
   first_fits : Responds capacity (plain_take_first p)
   first_fits =

@@ -141,7 +141,7 @@ module _ (kind : Kind) (capacity : ℕ) (ob : Object) (request : Request) (long 
               λ _.
               and_i allowed (leb after capacity) (and_l allowed (leb ob.held capacity) h)
               (le→leb after capacity m.held);
-          in_range_lem = rw m.told.0 tt;
+          in_range = rw m.told.0 tt;
           tells = m.told.1;
         },
         m.places,
@@ -151,7 +151,7 @@ module _ (kind : Kind) (capacity : ℕ) (ob : Object) (request : Request) (long 
   when_refused : (number : ℕ) → (T (object_in_range kind capacity ob) → T (knows kind request) → ⊥)
       → Plainly (refused_with number ob)
   when_refused number out =
-      (record { accepted = λ h k. absurd (out h k); plain = λ h k. absurd (out h k); stays = λ h. h; in_range_lem = tt; tells = tt }, long, refl)
+      (record { accepted = λ h k. absurd (out h k); plain = λ h k. absurd (out h k); stays = λ h. h; in_range = tt; tells = tt }, long, refl)
 
   by_tests : (t u : Bool) → object_in_range kind capacity ob ≡ t → knows kind request ≡ u
       → Plainly (cond t (cond u (applied_known kind capacity request ob) (refused_with 9 ob)) (refused_with 14 ob))

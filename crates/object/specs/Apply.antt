@@ -105,5 +105,5 @@ pub record AppliesPlainly (kind : Kind) (capacity : ℕ) (ob : Object) (request 
   pub plain : T (object_in_range kind capacity ob) → T (knows kind request)
       → plain_step kind capacity request (contents ob) ≡ record { answer = r.answer; after = contents r.object }
   pub stays : T (object_in_range kind capacity ob) → T (object_in_range kind capacity r.object)
-  pub in_range_lem : T (answer_in_range capacity r.answer)
+  pub in_range : T (answer_in_range capacity r.answer)
   pub tells : TellsHeld r.answer r.object.held

@@ -25,7 +25,7 @@ use Rattle.page.proofs.Run.{many_rows, row_shows, table, room}
 -- the pages of a run that is not refused fit the code's own buffer
 pub run_room : {bytes records : List ℕ} {counts : Counts} → Ran bytes records counts
     → length (pages_text (rows_in (records_laid counts.records records))) ≤ enough_for_pages
-run_room ran = rw ran.in_buffer (room ran.fields ran.in_range_lem ran.clear)
+run_room ran = rw ran.in_buffer (room ran.fields ran.in_range ran.clear)
 
 -- a file is not both
 not_both : {f : Fields} {number : ℕ} → accepted f ≡ refused_by number → ⊥
@@ -37,8 +37,8 @@ clear_answer true a e = refl
 clear_answer false a e = absurd (omega (arith, e))
 
 module _ (bytes old : List ℕ) {judged : Judged} (judges : Judges bytes judged) where
-  in_range_lem : (f : Fields) → judge_of bytes ≡ accepted f → InRange f
-  in_range_lem f e = ((judges.exactly f).0 e).0
+  in_range : (f : Fields) → judge_of bytes ≡ accepted f → InRange f
+  in_range f e = ((judges.exactly f).0 e).0
 
   accepts : (j : Judgement) → judge_of bytes ≡ j → (page_answer (length old) j).refusal ≡ 0 → (f : Fields) × (judge_of bytes ≡ accepted f) × (clear_of f ≡ true)
   accepts (accepted f) e zero = (f, e, clear_answer (clear_of f) _ zero)
@@ -68,11 +68,11 @@ module _ (bytes old : List ℕ) {judged : Judged} (judges : Judges bytes judged)
     answer = answer;
     buffer = buffer;
     zero = λ zero. accepts (judge_of bytes) refl (sym (ap (λ (a : Printed). a.refusal) answer) ∙ zero);
-    many = λ f e. many_rows f (in_range_lem f e);
-    shows = λ f e. row_shows f (in_range_lem f e);
-    table = λ f e. table f (in_range_lem f e);
+    many = λ f e. many_rows f (in_range f e);
+    shows = λ f e. row_shows f (in_range f e);
+    table = λ f e. table f (in_range f e);
     enough = λ f e clear lent.
-        ap (λ (a : Printed). a.refusal) answer ∙ ap (λ (j : Judgement). (page_answer (length old) j).refusal) e ∙ enough f (in_range_lem f e) clear lent;
+        ap (λ (a : Printed). a.refusal) answer ∙ ap (λ (j : Judgement). (page_answer (length old) j).refusal) e ∙ enough f (in_range f e) clear lent;
     inside = rw answer (keeps (judge_of bytes)).0;
     untouched = rw (answer, buffer) (keeps (judge_of bytes)).1;
   }

@@ -118,7 +118,7 @@ module _ (m : Method) (s : State) (t : ThreadId) (shaped : Shaped s) (range : in
   answer_in_range_lem : answer_in_range s.capacity (applied_by m s t).answer ≡ true
   answer_in_range_lem =
       applied_keeps (λ answer ob. answer_in_range s.capacity answer ≡ true) (event_by m s t) s.kind s.capacity s.object (node_by m s t).req refl
-      (λ request. is_true _ (applies_plainly s.kind s.capacity s.object request shaped.items).in_range_lem)
+      (λ request. is_true _ (applies_plainly s.kind s.capacity s.object request shaped.items).in_range)
 
   pub leaves : Leaves m last s.h s.kind s.capacity (named s t) (misses_by m s t) (out_by m s t) (effect_by m s t)
   leaves =

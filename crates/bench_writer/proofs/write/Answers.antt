@@ -8,7 +8,6 @@ use Rattle.bench_file.specs.Layout.{Fields, head_length}
 use Rattle.bench_file.proofs.Size.{head_range}
 use Rattle.bench_writer.specs.Writer.{Given, given_by, given_reader, raw_bytes}
 use Rattle.bench_file.proofs.Each.{each_at}
-use Rattle.bench_writer.proofs.Filling.{fills}
 use Rattle.bench_writer.proofs.Forgotten.{numbered_refused, numbered_read}
 use Rattle.bench_writer.proofs.Laying.{interleaved_length, raw_length}
 use Rattle.bench_writer.proofs.Writing.{Takes, takes, write_refused, write_short, write_whole, writes}
@@ -30,7 +29,7 @@ returns-then-refusal-ne0 c =
     let a = c.args in
     let g = given_by a.version a.object a.n a.h a.capacity a.method a.counts.now a.requests.now a.schedule.now in
     let p = each_at a.requests.now (λ i. omega (arith, c.type_inv.requests i)) in
-    writes g _ _ _ p (fills (write_refused g _ _ (numbered_refused (given_reader g g.requests) _ c.judge_given-refusal.ensures c.if-refusal-ne0.true)) refl refl refl)
+    writes g _ _ _ p (write_refused g _ _ (numbered_refused (given_reader g g.requests) _ c.judge_given-refusal.ensures c.if-refusal-ne0.true)) refl refl refl
 
 pub overflow_add-length-2 : goal.overflow_add-length-2
 overflow_add-length-2 c =
@@ -59,7 +58,7 @@ returns-then-out-length c =
     let g = given_by a.version a.object a.n a.h a.capacity a.method a.counts.now a.requests.now a.schedule.now in
     let p = each_at a.requests.now (λ i. omega (arith, c.type_inv.requests i)) in
     let (f, t) = taken g p c.judge_given-refusal.ensures c.if-refusal-ne0.false in
-    writes g _ _ _ p (fills (write_short g f (length a.out.now) t (omega (arith, size g t, c.head_bytes.ensures, c.if-out-length.true))) refl refl refl)
+    writes g _ _ _ p (write_short g f (length a.out.now) t (omega (arith, size g t, c.head_bytes.ensures, c.if-out-length.true))) refl refl refl
 
 pub put_file-requires : goal.put_file-requires
 put_file-requires c =
@@ -76,5 +75,5 @@ returns c =
     let p = each_at a.requests.now (λ i. omega (arith, c.type_inv.requests i)) in
     let (f, t) = taken g p c.judge_given-refusal.ensures c.if-refusal-ne0.false in
     writes g _ _ _ p
-    (fills (write_whole g f (length a.out.now) t (omega (arith, size g t, c.head_bytes.ensures, c.if-out-length.false)))
-    refl (omega (arith, size g t, c.head_bytes.ensures)) (c.put_file.ensures ∙ rw zero-add))
+    (write_whole g f (length a.out.now) t (omega (arith, size g t, c.head_bytes.ensures, c.if-out-length.false)))
+    refl (omega (arith, size g t, c.head_bytes.ensures)) (c.put_file.ensures ∙ rw zero-add)
