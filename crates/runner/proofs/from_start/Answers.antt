@@ -16,9 +16,9 @@ use Rattle.machine.specs.declared.ThreadId.{ThreadId}
 use Rattle.machine.specs.Accesses.{pointed, accesses_of, written_of}
 use Rattle.machine.specs.Events.{same_event, event_found}
 use Rattle.machine.specs.Sizes.{most_calls, most_nodes}
-use Rattle.cc_lines.specs.Lines as ccLines
-use Rattle.cc_synch.specs.Effect as ccEffect
-use Rattle.dsm_synch.specs.Effect as dsmEffect
+use Rattle.cc_lines.specs.Lines as CcLines
+use Rattle.cc_synch.specs.Effect as CcEffect
+use Rattle.dsm_synch.specs.Effect as DsmEffect
 use Rattle.methods.specs.Methods.{row_by, effect_by, behind_by}
 use Rattle.methods.proofs.Rows.{all_rows, row_at}
 use Rattle.copies.specs.Remote.{Referred, referred_by}
@@ -110,11 +110,11 @@ module _ {bytes : List ℕ} {start : State} {m : Method} {rows : List Row} {spin
 
     -- what the line does: no test of 14 in CC-Synch, that of `run_line` in DSM-Synch
     by_cc : {e : Effect} {answer : Answer} {J : State} → Serves s J answer (applied_at ev s.kind s.capacity s.object x.req) → m ≡ CcSynch
-        → e ≡ ccEffect.wrapped (ccEffect.executed (named s t) x s.tail h (get_or s.requests c zero_slot).request answer (ccLines.line_of k)) → e ≡ answered m s t x ev c
+        → e ≡ CcEffect.wrapped (CcEffect.executed (named s t) x s.tail h (get_or s.requests c zero_slot).request answer (CcLines.line_of k)) → e ≡ answered m s t x ev c
     by_cc served is e = cc_answers m now.file bytes now.fits now.running inside x (get_or s.requests c zero_slot).request now.limit served.answers is read.line_is node_so e
 
     by_dsm : {e : Effect} {y : Node} {answer : Answer} {J : State} → Serves s J answer (applied_at ev s.kind s.capacity s.object x.req) → m ≡ DsmSynch
-        → y ≡ get_or s.nodes x.next.0 zero_node → e ≡ dsmEffect.effect_of t.0 (named s t) x y s.tail h (get_or s.requests c zero_slot).request answer → e ≡ answered m s t x ev c
+        → y ≡ get_or s.nodes x.next.0 zero_node → e ≡ DsmEffect.effect_of t.0 (named s t) x y s.tail h (get_or s.requests c zero_slot).request answer → e ≡ answered m s t x ev c
     by_dsm served is at e = dsm_answers m now.file bytes now.fits now.running inside x (get_or s.requests c zero_slot).request now.limit served.answers is at e
 
 -- a thread that spins waits at one of the nodes
