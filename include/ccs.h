@@ -6,7 +6,7 @@
  *
  * Pointers: each points to as many bytes or numbers as the length beside it or the parameter says, and is not NULL, even where the length is 0. What
  * is lent for writing overlaps nothing else that is passed. Nothing is kept of a pointer after the call, and no function writes to memory that is
- * not lent to it. The functions may be called from several threads at once. ccs_run needs 40 KiB of stack, ccs_list 80 KiB, ccs_page 64 KiB,
+ * not lent to it. The functions may be called from several threads at once. ccs_run needs 56 KiB of stack, ccs_list 96 KiB, ccs_page 80 KiB,
  * the others 1 KiB.
  *
  * The bench file, numbers low byte first:
