@@ -285,7 +285,7 @@ pub fn write(fields: &Fields, out: &mut [u8]) -> Result<usize, Refusal> {
 /// Version 1 becomes version 2 with method 0, and version 2 with method 0 becomes version 1; a file already in the wanted version is judged and copied.
 /// The converted file is accepted, with the same fields but for the version; [`run`] answers alike for both with as many bytes lent; and converting
 /// back gives the first file again, byte for byte. [`Refusal::Version`] for the wanted version comes before the file is looked at,
-/// [`Refusal::DsmSynch`] after the file's own refusals, and [`Refusal::Buffer`] last.
+/// 16, for a DSM-Synch file where version 1 is wanted, after the file's own refusals, and [`Refusal::Buffer`] last.
 ///
 /// ```
 /// use ccs::Refusal;
@@ -309,7 +309,7 @@ pub fn write(fields: &Fields, out: &mut [u8]) -> Result<usize, Refusal> {
 ///
 /// // version 1 has no DSM-Synch, however few bytes are lent
 /// two[9] = 1;
-/// assert_eq!(ccs::convert(&two, 1, &mut []), Err(Refusal::DsmSynch));
+/// assert_eq!(ccs::convert(&two, 1, &mut []).map_err(Refusal::number), Err(16));
 /// ```
 pub fn convert(file: &[u8], wanted: u16, out: &mut [u8]) -> Result<usize, Refusal> {
     let mut length = 0;
@@ -402,7 +402,7 @@ mod tests {
         for number in 1..=255 {
             let refusal = Refusal::of(number).expect("a refusal");
             assert_eq!(refusal.number(), number);
-            assert_eq!(matches!(refusal, Refusal::Unlisted(_)), number > 16);
+            assert_eq!(matches!(refusal, Refusal::Unlisted(_)), number > 15);
         }
     }
 

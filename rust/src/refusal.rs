@@ -2,7 +2,7 @@
 use std::error::Error;
 use std::fmt;
 
-/// Why a file, its fields, its run, its conversion or a lent buffer is refused: the numbers 1 to 16, as in `include/ccs.h`.
+/// Why a file, its fields, its run or a lent buffer is refused: the numbers 1 to 15, as in `include/ccs.h`.
 ///
 /// ```
 /// let refusal = ccs::judge(&[0x43, 0x43, 0x54]).unwrap_err();
@@ -42,15 +42,13 @@ pub enum Refusal {
     Null,
     /// 15: the method is above 1; of given fields, also one other than 0 under version 1.
     Method,
-    /// 16: a DSM-Synch file where version 1 is wanted.
-    DsmSynch,
-    /// A number outside 1 to 16. The library gives none; this package does not rely on that.
+    /// A number outside 1 to 15: a conversion's 16, which has no name here yet. The library gives no other; this package does not rely on that.
     #[non_exhaustive]
     Unlisted(u8),
 }
 
 /// The listed refusals with their words.
-const TABLE: [(Refusal, &str); 16] = [
+const TABLE: [(Refusal, &str); 15] = [
     (
         Refusal::CutOff,
         "a field is cut off by the end, or a row is too short",
@@ -87,10 +85,6 @@ const TABLE: [(Refusal, &str); 16] = [
         Refusal::Method,
         "the method is above 1, or other than 0 under version 1",
     ),
-    (
-        Refusal::DsmSynch,
-        "a DSM-Synch file where version 1 is wanted",
-    ),
 ];
 
 impl Refusal {
@@ -116,7 +110,6 @@ impl Refusal {
             Refusal::Buffer => 13,
             Refusal::Null => 14,
             Refusal::Method => 15,
-            Refusal::DsmSynch => 16,
             Refusal::Unlisted(number) => number,
         }
     }
