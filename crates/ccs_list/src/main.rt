@@ -1,13 +1,12 @@
 // Lists the bench file on standard input.
 #![tactic(auto)]
 
-ghost use Rattle.std.specs.Prelude.{ℕ, ◌≤◌, ◌≡◌, List, length, take, IfOk};
+ghost use Rattle.std.specs.Prelude.{ℕ, ◌≤◌, ◌≡◌, List, length, take};
 ghost use Rattle.bench_file.specs.Layout.{judge_of};
 ghost use Rattle.listing.specs.Listing.{listing_of};
 ghost use Rattle.listing.specs.Promise.{enough_bytes};
 
 use std::io;
-use std::io::Read;
 
 // So many first bytes of an input decide its listing: an accepted file has at most 34,076.
 const DECIDING: usize = 34077;
@@ -22,25 +21,10 @@ fn list_start(start: &[u8], read: usize, text: &mut [u8]) -> usize
     listed.length
 }
 
-// Reads an input's first bytes: all, or as many as the buffer holds. Answers how many.
-fn read_start<R: Read>(input: &mut R, start: &mut [u8]) -> io::Result<usize>
-    ensures { IfOk result (λ read. read ≤ length start.new) }
-{
-    let mut read = 0;
-    for _ in 0..start.len() {
-        let more = input.read(&mut start[read..])?;
-        if more == 0 {
-            break;
-        }
-        read += more;
-    }
-    Ok(read)
-}
-
 fn main(rt: HostRuntime) -> io::Result<()> {
     let mut start = [0u8; DECIDING];
     let mut text = [0u8; listing::ENOUGH];
-    let read = read_start(&mut rt.stdin(), &mut start)?;
+    let read = console::read_start(&mut rt.stdin(), &mut start)?;
     let length = list_start(&start, read, &mut text);
     rt.stdout().write_all(&text[..length])
 }

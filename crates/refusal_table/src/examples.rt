@@ -1,7 +1,7 @@
 // The examples of the refusal table, the file of 64 bytes in both versions, and files at a limit, each judged whole and cut at each byte.
-use crate::output::Output;
 use crate::show;
 use crate::show::{cuts, first};
+use console::Output;
 
 fn judged(output: &mut Output, name: &[u8], file: &[u8]) {
     output.text(name);

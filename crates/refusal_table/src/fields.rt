@@ -1,9 +1,9 @@
 // One byte of an accepted file is exchanged for each of several values. The file is judged, and written from its fields.
 ghost use Rattle.std.specs.Prelude.{◌<◌, ◌≤◌};
 
-use crate::output::Output;
 use crate::show;
 use crate::show::first;
+use console::Output;
 
 // Where the rows of each version begin.
 const FIRST: usize = 9;
@@ -73,7 +73,7 @@ fn sweep(
         output.text(name);
         output.text(b" ");
         output.text(field);
-        output.byte(*value);
+        show::byte(output, *value);
         output.text(b":");
         let mut other = file;
         other[at] = *value;

@@ -3,11 +3,10 @@
 
 mod examples;
 mod fields;
-mod output;
 mod rows;
 mod show;
 
-use output::Output;
+use console::Output;
 use std::io;
 
 fn main(rt: HostRuntime) -> io::Result<()> {

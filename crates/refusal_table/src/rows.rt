@@ -1,9 +1,9 @@
 // The writer's rows and the lent buffer at their limits, and several faults at once.
 ghost use Rattle.std.specs.Prelude.{◌≤◌};
 
-use crate::output::Output;
 use crate::show;
 use crate::show::{fill, first};
+use console::Output;
 
 // The version and the bytes given: object, n, h, capacity, method, each count, each request's code, the first and last byte of its
 // value, and each second entry; the other entries are 0. Then the lengths of the counts, the requests, the schedule and the lent buffer.
@@ -19,14 +19,14 @@ fn case(
     requires { room ≤ 34077 }
 {
     output.text(b"given");
-    output.number(version as u64);
-    output.bytes(&given);
+    output.spaced(version as u64);
+    show::bytes(output, &given);
     output.text(b" rows");
-    output.number(counts as u64);
-    output.number(requests as u64);
-    output.number(schedule as u64);
+    output.spaced(counts as u64);
+    output.spaced(requests as u64);
+    output.spaced(schedule as u64);
     output.text(b" room");
-    output.number(room as u64);
+    output.spaced(room as u64);
     output.text(b":");
     write_rows(output, version, given, counts, requests, schedule, room);
 }

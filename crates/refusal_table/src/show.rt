@@ -1,11 +1,21 @@
 // What the judge and the writer answer, as words and numbers on standard output.
 ghost use Rattle.std.specs.Prelude.{◌<◌, ◌≤◌, length};
 
-use crate::output::Output;
 use bench_file::Judged;
+use console::Output;
 
 fn wide(x: u8) -> u64 {
     x as u64
+}
+
+pub(crate) fn byte(output: &mut Output, x: u8) {
+    output.spaced(wide(x));
+}
+
+pub(crate) fn bytes(output: &mut Output, s: &[u8]) {
+    for x in s {
+        byte(output, *x);
+    }
 }
 
 // The first bytes of a slice, or all of them where it has fewer.
@@ -35,17 +45,17 @@ pub(crate) fn judged(output: &mut Output, file: &[u8]) {
             requests,
             entries,
         } => {
-            output.byte(0);
-            output.number(head.version as u64);
+            byte(output, 0);
+            output.spaced(head.version as u64);
             let kind = head.object;
             let object = object::kind_number(kind);
             let method = head.method;
             let by = machine::method_number(method);
-            output.bytes(&[object, head.n, head.h, head.capacity, by]);
-            output.number(requests as u64);
-            output.number(entries as u64);
+            bytes(output, &[object, head.n, head.h, head.capacity, by]);
+            output.spaced(requests as u64);
+            output.spaced(entries as u64);
         }
-        Judged::Refused(refusal) => output.byte(refusal),
+        Judged::Refused(refusal) => byte(output, refusal),
     }
 }
 
@@ -56,7 +66,7 @@ pub(crate) fn cuts(output: &mut Output, name: &[u8], file: &[u8]) {
     judged(output, file);
     output.text(b" cuts");
     for i in 0..file.len() {
-        output.byte(refusal(first(file, i)));
+        byte(output, refusal(first(file, i)));
     }
     output.text(b"\n");
 }
@@ -82,9 +92,9 @@ fn held(output: &mut Output, out: &[u8]) {
         sums = std::num::wrapping_add_u64(sums, sum);
     }
     output.text(b" kept");
-    output.number(kept);
+    output.spaced(kept);
     output.text(b" sums");
-    output.number(sums);
+    output.spaced(sums);
 }
 
 // Gives the writer a version, then object, n, h, capacity and method, and lends it the first bytes of a buffer that holds 0xAA only.
@@ -115,8 +125,8 @@ pub(crate) fn written(
         &mut out[0..room],
     );
     output.text(b" written");
-    output.byte(answer.refusal);
-    output.number(answer.length as u64);
+    byte(output, answer.refusal);
+    output.spaced(answer.length as u64);
     held(output, out);
     around(output, out, answer.length);
     output.text(b"\n");
@@ -128,8 +138,8 @@ fn around(output: &mut Output, out: &[u8], length: usize) {
         return;
     }
     judged(output, first(out, length));
-    output.byte(refusal(first(out, length - 1)));
+    byte(output, refusal(first(out, length - 1)));
     if length < out.len() {
-        output.byte(refusal(first(out, length + 1)));
+        byte(output, refusal(first(out, length + 1)));
     }
 }

@@ -1,7 +1,7 @@
 // DSM-Synch, from a state in use: thread 0 of two with myNode 1, myPredNode 2 and tmpNode 3, Tail at node 1, h 1. Its variables of CC-Synch are out of that method's
 // range, and so is all past its last node, 3.
-use crate::output::Output;
 use crate::script::table;
+use console::Output;
 
 pub(crate) fn run(output: &mut Output) {
     // Each line, and what decides its outcome or whose the nodes are that it goes to.

@@ -1,6 +1,6 @@
 // Each line, from states in use: thread 1 of three with own node 0, curNode 2, tmpNode 3 and tmpNodeNext 1, Tail at node 1.
-use crate::output::Output;
 use crate::script::table;
+use console::Output;
 
 pub(crate) fn run(output: &mut Output) {
     // Each of the eight choices of who has a copy of what the line goes to, each node that its pointers can name, and other threads.

@@ -5,13 +5,12 @@ mod dsm;
 mod lines;
 mod make;
 mod outcomes;
-mod output;
 mod ranges;
 mod runs;
 mod script;
 mod show;
 
-use output::Output;
+use console::Output;
 use std::io;
 
 fn main(rt: HostRuntime) -> io::Result<()> {

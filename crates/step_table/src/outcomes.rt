@@ -1,6 +1,6 @@
 // 14 for the outcome: counts past 32 bits at each line, the served counter past h, null into tmpNode, an empty req or ret.
-use crate::output::Output;
 use crate::script::table;
+use console::Output;
 
 pub(crate) fn run(output: &mut Output) {
     // Each count at its limit: lines that go to nothing shared, then those that do, where no thread has a copy.

@@ -1,7 +1,7 @@
 // 14 for the state, then 11: each number just inside and just outside its range, in the thread that steps and in others, and past n.
 // Where nothing is refused, thread 2 has no request left and its step is a blank.
-use crate::output::Output;
 use crate::script::table;
+use console::Output;
 
 pub(crate) fn run(output: &mut Output) {
     // The numbers that stand alone, and those of a thread, judged whether it steps or not.

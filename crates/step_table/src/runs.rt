@@ -1,6 +1,6 @@
 // Whole runs by steps, from document 01's start: its runs that touch a bound, a stack of capacity 2 that fills up, and long walks of many threads.
-use crate::output::Output;
 use crate::script::table;
+use console::Output;
 
 pub(crate) fn run(output: &mut Output) {
     // Runs of one thread and of two, then many steps of three threads that put and take in turn, and of sixteen.

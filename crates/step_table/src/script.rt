@@ -2,8 +2,8 @@
 // A letter names a field, as make says; a number before = says where, a number after it to what; a space or a point ends a change.
 // A comma shows a case named by what the change sets, a semicolon by where, a point by neither. A bar stands before the steps of a run.
 use crate::make::Word;
-use crate::output::Output;
 use crate::{make, show};
+use console::Output;
 use machine::Method;
 use object::Kind;
 use state::State;

@@ -1,6 +1,6 @@
 // A step's refusal, and what differs between the state handed in and the state handed back, over all places of both.
 use crate::make::Word;
-use crate::output::Output;
+use console::Output;
 use machine::{Announced, Node, RetVal, Thread, ThreadId};
 use object::{Object, Request};
 use state::{Counts, Slot, State};

@@ -1,0 +1,61 @@
+// What the programs do with standard input and output: words and numbers written, and an input's first bytes read.
+#![tactic(auto)]
+
+ghost use Rattle.std.specs.Prelude.{◌≤◌, length, IfOk};
+
+use std::io;
+use std::io::{Read, Stdout};
+
+// Standard output. After a write that failed nothing more is written.
+#[derive(Drop)]
+pub struct Output {
+    stdout: Stdout,
+    written: io::Result<()>,
+}
+
+impl Output {
+    pub fn new(stdout: Stdout) -> Output {
+        Output {
+            stdout,
+            written: Ok(()),
+        }
+    }
+
+    pub fn text(&mut self, s: &[u8]) {
+        if self.written.is_ok() {
+            self.written = self.stdout.write_all(s);
+        }
+    }
+
+    pub fn number(&mut self, x: u64) {
+        if self.written.is_ok() {
+            self.written = self.stdout.print(x);
+        }
+    }
+
+    // A number after a space.
+    pub fn spaced(&mut self, x: u64) {
+        self.text(b" ");
+        self.number(x);
+    }
+
+    // The failure, if a write failed.
+    pub fn finish(self) -> io::Result<()> {
+        self.written
+    }
+}
+
+// Reads an input's first bytes: all, or as many as the buffer holds. Answers how many.
+pub fn read_start<R: Read>(input: &mut R, start: &mut [u8]) -> io::Result<usize>
+    ensures { IfOk result (λ read. read ≤ length start.new) }
+{
+    let mut read = 0;
+    for _ in 0..start.len() {
+        let more = input.read(&mut start[read..])?;
+        if more == 0 {
+            break;
+        }
+        read += more;
+    }
+    Ok(read)
+}
