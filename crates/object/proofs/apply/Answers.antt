@@ -3,7 +3,7 @@ use Rattle.std.proofs.Common.{◌≡◌, ℕ, length, sym, ◌∙◌, rules}
 use Rattle.object.specs.declared.Kind.{Kind}
 use Rattle.object.specs.declared.Request.{Request}
 use Rattle.object.specs.declared.Object.{Object}
-use Rattle.object.specs.declared.Applied.{Applied}
+use Rattle.object.specs.Apply.{Applied}
 use Rattle.object.specs.Apply.{apply_of, AppliesPlainly}
 use Rattle.object.proofs.Plainly.{applies_plainly}
 use Rattle.object.proofs.apply.Goals as goal
@@ -16,7 +16,7 @@ pub returns-then-not-held_in_range-clause-applies_plainly : goal.returns-then-no
 returns-then-not-held_in_range-clause-applies_plainly c =
     let a = c.args in
     plainly a.kind a.capacity a.object a.request (search rules)
-    (simp (sym c.held_in_range.ensures ∙ c.if-not-held_in_range.true, c.refused_with.ensures))
+    (simp (sym c.held_in_range.ensures ∙ c.if-not-held_in_range.true))
 
 pub returns-clause-applies_plainly : goal.returns-clause-applies_plainly
 returns-clause-applies_plainly c =
