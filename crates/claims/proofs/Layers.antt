@@ -11,7 +11,7 @@ use Rattle.object.specs.declared.Request.{Request}
 use Rattle.object.specs.declared.Request.TheVariants.{Put}
 use Rattle.object.specs.declared.Answer.{Answer}
 use Rattle.object.specs.declared.Object.{Object}
-use Rattle.object.specs.declared.Applied.{Applied}
+use Rattle.object.specs.Apply.{Applied}
 use Rattle.object.proofs.Choice.{by_equal}
 use Rattle.bench_file.specs.Layout.{Fields}
 use Rattle.bench_file.specs.Bytes.{InRange}

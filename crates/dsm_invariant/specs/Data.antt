@@ -6,8 +6,7 @@ use Rattle.object.specs.declared.Request.TheVariants.{Put}
 use Rattle.object.specs.declared.Answer.{Answer}
 use Rattle.object.specs.declared.Answer.TheVariants.{Empty}
 use Rattle.object.specs.declared.Object.{Object}
-use Rattle.object.specs.declared.Applied.{Applied}
-use Rattle.object.specs.Apply.{knows}
+use Rattle.object.specs.Apply.{Applied, knows}
 use Rattle.machine.specs.declared.Announced.TheVariants.{Asked}
 use Rattle.machine.specs.declared.RetVal.TheVariants.{Answered}
 use Rattle.machine.specs.declared.Node.{Node}

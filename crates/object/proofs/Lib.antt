@@ -5,4 +5,5 @@ pub mod Each
 pub mod Fitting
 pub mod Inverse
 pub mod Plainly
+pub mod Taken
 pub mod Within

@@ -102,8 +102,8 @@ fn from_start(schedule: &[u8], start: State) -> Played
         if applies {
             let object = state.object;
             let applied = step::served_by(kind, capacity, object, req);
-            let object_after = applied.object;
-            answer = applied.answer;
+            let (given, object_after) = applied.unwrap_or((Answer::Empty, object));
+            answer = given;
             state.object = object_after;
         }
         // No line of CC-Synch is refused in a run; one of DSM-Synch is where it meets null.

@@ -6,7 +6,7 @@ use borrow.Author.Tests.{lt-leb}
 use Rattle.object.specs.declared.Object.{Object}
 use Rattle.object.specs.declared.Request.{Request}
 use Rattle.object.specs.declared.Answer.{Answer}
-use Rattle.object.specs.declared.Applied.{Applied}
+use Rattle.object.specs.Apply.{Applied}
 use Rattle.machine.specs.declared.Method.{Method}
 use Rattle.machine.specs.declared.Method.TheVariants.{CcSynch, DsmSynch}
 use Rattle.machine.specs.declared.ThreadId.{ThreadId}
@@ -173,12 +173,12 @@ module _ (m : Method) (s : State) (t : ThreadId) (shape : Shaped s) (fits : in_r
     entered_by_lem done en ep = rw (en, ep, sums, done, copies_are, is_written, is_applied) refl
 
     -- the entry goes through
-    pub accepted : {nodes : List Node} {counts : Counts} → e.refusal ≡ 0 → counts_in_range (plus s.counts more) ≡ true
-        → nodes ≡ set s.nodes w.0 e.node → counts ≡ wrapped (plus s.counts more)
-        → ◌≡◌ {A = Stepped} (record { refusal = 0; state = made s t nodes ob.object e copies counts }) (outcome_by m s t)
-    accepted h f en ep =
+    pub accepted : {nodes : List Node} {counts : Counts} {object : Object} → e.refusal ≡ 0 → counts_in_range (plus s.counts more) ≡ true
+        → object ≡ ob.object → nodes ≡ set s.nodes w.0 e.node → counts ≡ wrapped (plus s.counts more)
+        → ◌≡◌ {A = Stepped} (record { refusal = 0; state = made s t nodes object e copies counts }) (outcome_by m s t)
+    accepted h f eo en ep =
         let g = through (rw is_answer at h) in
-        rw (entered_by_lem (is_answer ∙ g.1) en (ep ∙ fits_wrapped _ f)) (sym (by_outcome g.0 (ap counts_in_range (sym sums) ∙ f)))
+        rw (eo, entered_by_lem (is_answer ∙ g.1) en (ep ∙ fits_wrapped _ f)) (sym (by_outcome g.0 (ap counts_in_range (sym sums) ∙ f)))
 
 -- the order of the step: the state, the entry, the outcome
 module _ (s : State) (t : ThreadId) where

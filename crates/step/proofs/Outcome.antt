@@ -10,9 +10,8 @@ use Rattle.object.specs.declared.Request.{Request}
 use Rattle.object.specs.declared.Object.{Object}
 use Rattle.object.specs.declared.Answer.{Answer}
 use Rattle.object.specs.declared.Answer.TheVariants.{Empty}
-use Rattle.object.specs.declared.Applied.{Applied}
 use Rattle.object.specs.Paper.{within, answer_in_range}
-use Rattle.object.specs.Apply.{knows, held_in_range, answered, apply_of}
+use Rattle.object.specs.Apply.{Applied, knows, held_in_range, answered, apply_of}
 use Rattle.object.proofs.Plainly.{applies_plainly}
 use Rattle.object.specs.Each.{every}
 use Rattle.machine.specs.declared.Method.{Method}

@@ -1,6 +1,6 @@
 -- What one schedule entry does to a state by DSM-Synch: document 02, No. 6. As Entry.antt has it of CC-Synch.
 use Rattle.std.specs.Prelude.{Bool, List, slice_index_or}
-use Rattle.object.specs.declared.Applied.{Applied}
+use Rattle.object.specs.Apply.{Applied}
 use Rattle.machine.specs.declared.Method.TheVariants.{DsmSynch}
 use Rattle.machine.specs.declared.ThreadId.{ThreadId}
 use Rattle.machine.specs.declared.NodeId.{NodeId}

@@ -5,8 +5,7 @@ use Rattle.object.specs.declared.Request.{Request}
 use Rattle.object.specs.declared.Request.TheVariants.{Put}
 use Rattle.object.specs.declared.Answer.TheVariants.{Empty}
 use Rattle.object.specs.declared.Object.{Object}
-use Rattle.object.specs.declared.Applied.{Applied}
-use Rattle.object.specs.Apply.{answered, refused_with, apply_of}
+use Rattle.object.specs.Apply.{Applied, answered, refused_with, apply_of}
 use Rattle.machine.specs.declared.ThreadId.{ThreadId}
 use Rattle.machine.specs.declared.NodeId.{NodeId}
 use Rattle.machine.specs.declared.Announced.{Announced}

@@ -2,12 +2,14 @@
 #![tactic(auto)]
 
 ghost use Rattle.std.specs.Prelude.{◌≡◌, ◌+◌, ◌-◌, ◌*◌, ◌^◌, ◌<◌, true, nat_lt, slice_index_or, slice_set};
+ghost use Rattle.object.specs.Apply.{as_applied};
 ghost use Rattle.state.specs.Range.{in_range, counts_in_range};
 ghost use Rattle.step.specs.Entry.{zero_node, served_by, applied_at, more_of, plus, wrapped};
 ghost use Rattle.step.specs.Step.{refused, outcome_by, step_of};
 
 use machine::{Announced, Event, Node, NodeId, RetVal, ThreadId};
-use object::{Answer, Applied, Kind, Object};
+use object::{Answer, Kind, Object};
+use refusal::Refusal;
 use state::{Counts, State};
 
 // Refusal 0 with the state after the entry, or a refusal's number with the state as it was.
@@ -26,32 +28,24 @@ fn refused(number: u8, state: State) -> Stepped
     }
 }
 
-// A node's req applied to the object.
-pub fn served_by(kind: Kind, capacity: u8, object: Object, req: Announced) -> Applied
-    ensures { result ≡ served_by kind capacity object req }
+// A node's req applied to the object: the answer and the object after it.
+pub fn served_by(kind: Kind, capacity: u8, object: Object, req: Announced) -> Result<(Answer, Object), Refusal>
+    ensures { as_applied object result ≡ served_by kind capacity object req }
 {
     match req {
-        Announced::NoRequest => Applied {
-            refusal: 14,
-            answer: Answer::Empty,
-            object,
-        },
+        Announced::NoRequest => Err(Refusal::OutOfRange),
         Announced::Asked(request) => object::apply(kind, capacity, object, request),
     }
 }
 
 // An entry that applies serves the node's req; any other leaves the object.
-fn applied_at(event: Event, kind: Kind, capacity: u8, object: Object, req: Announced) -> Applied
-    ensures { result ≡ applied_at event kind capacity object req }
+fn applied_at(event: Event, kind: Kind, capacity: u8, object: Object, req: Announced) -> Result<(Answer, Object), Refusal>
+    ensures { as_applied object result ≡ applied_at event kind capacity object req }
 {
     if machine::same_event(event, Event::Applies) {
         return served_by(kind, capacity, object, req);
     }
-    Applied {
-        refusal: 0,
-        answer: Answer::Empty,
-        object,
-    }
+    Ok((Answer::Empty, object))
 }
 
 // The place of the call that a thread has begun last, and of its request in the rows; of a thread that has begun none, the first of its row.
@@ -184,8 +178,9 @@ fn enter(state: State, thread: ThreadId) -> Stepped
     let place = call_place(thread, named.begun);
     let slot = state.requests[place];
     let request = slot.request;
+    // What is refused here leaves the object, and the line refuses it.
     let applied = applied_at(event, kind, state.capacity, object, req);
-    let answer = applied.answer;
+    let (answer, object_after) = applied.unwrap_or((Answer::Empty, object));
     let effect = methods::run_line(
         method, thread, named, node, behind, tail, state.h, request, answer,
     );
@@ -202,7 +197,6 @@ fn enter(state: State, thread: ThreadId) -> Stepped
     let thread_after = effect.thread;
     let node_after = effect.node;
     let tail_after = effect.tail;
-    let object_after = applied.object;
     let counts_after = plus(counts, more);
     let nodes_after = nodes_with(nodes, written, node_after);
     after.threads[t] = thread_after;
