@@ -296,7 +296,7 @@ fn convert_head(file: &[u8], head: Head, wanted: u16, out: &mut [u8]) -> Written
             length: 0,
         };
     }
-    let kind = object::kind_number(object);
+    let kind = u8::from(object);
     put_head(out, wanted, kind, head.n, head.h, head.capacity, by);
     put(out, at, &file[from..]);
     Written {

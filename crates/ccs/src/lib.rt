@@ -36,7 +36,7 @@ fn judged_numbers(judged: Judged) -> [usize; 8]
             entries,
         } => {
             let object = head.object;
-            let number = object::kind_number(object);
+            let number = u8::from(object);
             let method = head.method;
             let by = machine::method_number(method);
             [

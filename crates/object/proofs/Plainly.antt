@@ -163,6 +163,10 @@ module _ (kind : Kind) (capacity : ℕ) (ob : Object) (request : Request) (long 
   pub applies_plainly : AppliesPlainly kind capacity ob request (apply_of kind capacity ob request)
   applies_plainly = (by_tests (object_in_range kind capacity ob) (knows kind request) refl refl).0
 
+  -- as equals it
+  pub plainly_as : (r : Applied) → r ≡ apply_of kind capacity ob request → AppliesPlainly kind capacity ob request r
+  plainly_as r e = rw e applies_plainly
+
   -- and the storage still has its 64 places
   pub places_stay : length (apply_of kind capacity ob request).object.items ≡ 64
   places_stay = (by_tests (object_in_range kind capacity ob) (knows kind request) refl refl).1

@@ -33,7 +33,8 @@ pub enum Answer {
     Full,
 }
 
-// The object's storage: the queue and the stack use the first `held` of the 64 places, the counter `sum`.
+// The object's storage: the queue and the stack use the first `held` of the 64 places, the counter `sum`. A host hands in any `held`, one out of range
+// is refused, and the places past those held are kept as they were: so the array and the count of it stand side by side.
 #[derive(Clone, Copy)]
 pub struct Object {
     pub items: [u32; 64],
@@ -48,7 +49,7 @@ pub fn between(least: u8, x: u8, most: u8) -> bool
     (least..=most).contains(&x)
 }
 
-// The kind of an object byte that was judged by 4; from 2 on it is the counter.
+// The kind of an object byte that was judged by 4. From 2 on it is the counter: callers that have judged the byte need no refusal; others take `Kind::try_from`.
 pub fn kind_of(number: u8) -> Kind
     ensures { result ≡ kind_of number }
 {
@@ -59,6 +60,7 @@ pub fn kind_of(number: u8) -> Kind
     }
 }
 
+// An object byte above 2 is refused.
 impl TryFrom<u8> for Kind {
     type Error = Refusal;
 
@@ -86,7 +88,7 @@ impl From<Kind> for u8 {
     }
 }
 
-// The request of a code that was judged by 9; from 2 on it is an add, and a take drops its value.
+// The request of a code and a value that were judged by 9. From 2 on it is an add, and a take drops its value: it cannot fail.
 pub fn request_of(code: u8, value: u32) -> Request
     ensures { result ≡ request_of code value }
 {
@@ -198,7 +200,7 @@ pub fn answer_in_range(capacity: u8, answer: Answer) -> bool
     ensures { result ≡ answer_in_range capacity answer }
 {
     match answer {
-        Answer::Done(count) => (1 <= count) & (count <= capacity as u32),
+        Answer::Done(count) => (1..=u32::from(capacity)).contains(&count),
         Answer::Value(_) | Answer::Empty | Answer::Full => true,
     }
 }
@@ -228,9 +230,9 @@ fn put(capacity: u8, value: u32, object: Object) -> (Answer, Object)
     let held = object.held;
     if held < capacity {
         let mut after = object;
-        after.items[held as usize] = value;
-        after.held = held + 1;
-        let count = after.held as u32;
+        after.items[usize::from(held)] = value;
+        after.held += 1;
+        let count = u32::from(after.held);
         return (Answer::Done(count), after);
     }
     (Answer::Full, object)
@@ -241,13 +243,12 @@ fn take_first(object: Object) -> (Answer, Object)
     requires { object.held ≤ 64 }
     ensures { answered result.0 result.1 ≡ take_first_of object }
 {
-    let held = object.held;
-    if held == 0 {
+    if object.held == 0 {
         return (Answer::Empty, object);
     }
     let mut after = object;
-    after.items.copy_within(1..held as usize, 0);
-    after.held = held - 1;
+    after.items.copy_within(1..usize::from(object.held), 0);
+    after.held -= 1;
     (Answer::Value(object.items[0]), after)
 }
 
@@ -260,7 +261,7 @@ fn take_last(object: Object) -> (Answer, Object)
     }
     let held = object.held - 1;
     (
-        Answer::Value(object.items[held as usize]),
+        Answer::Value(object.items[usize::from(held)]),
         Object { held, ..object },
     )
 }
@@ -311,7 +312,8 @@ fn applied_to(
     }
 }
 
-// A request applied to the object: its answer and the object after it. Capacity and items held are judged first, then the request.
+// A request applied to the object: its answer and the object after it. Capacity and items held are judged first, then the request. Kind and capacity stand
+// beside the object, as in a state.
 pub fn apply(
     kind: Kind,
     capacity: u8,

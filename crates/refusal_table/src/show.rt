@@ -48,7 +48,7 @@ pub(crate) fn judged(output: &mut Output, file: &[u8]) {
             byte(output, 0);
             output.spaced(head.version as u64);
             let kind = head.object;
-            let object = object::kind_number(kind);
+            let object = u8::from(kind);
             let method = head.method;
             let by = machine::method_number(method);
             bytes(output, &[object, head.n, head.h, head.capacity, by]);

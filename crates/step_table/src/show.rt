@@ -113,13 +113,8 @@ fn head(output: &mut Output, a: State, b: State) {
     single(output, b"h", wide8(a.h), wide8(b.h));
     let was = a.kind;
     let is = b.kind;
-    let kind = object::kind_number(is);
-    single(
-        output,
-        b"kind",
-        wide8(object::kind_number(was)),
-        wide8(kind),
-    );
+    let kind = u8::from(is);
+    single(output, b"kind", wide8(u8::from(was)), wide8(kind));
     single(output, b"capacity", wide8(a.capacity), wide8(b.capacity));
     single(output, b"tail", wide8(a.tail.0), wide8(b.tail.0));
 }
