@@ -6,8 +6,8 @@ ghost use Rattle.state.specs.Range.{in_range, counts_in_range};
 ghost use Rattle.step.specs.Entry.{zero_node, served_by, applied_at, more_of, plus, wrapped};
 ghost use Rattle.step.specs.Step.{refused, outcome_by, step_of};
 
-use machine::{Announced, Event, Node, NodeId, RetVal, ThreadId};
-use object::{Answer, Applied, Kind, Object};
+use machine::{Event, Node, NodeId, ThreadId};
+use object::{Answer, Applied, Kind, Object, Request};
 use state::{Counts, State};
 
 // Refusal 0 with the state after the entry, or a refusal's number with the state as it was.
@@ -27,21 +27,27 @@ fn refused(number: u8, state: State) -> Stepped
 }
 
 // A node's req applied to the object.
-pub fn served_by(kind: Kind, capacity: u8, object: Object, req: Announced) -> Applied
+pub fn served_by(kind: Kind, capacity: u8, object: Object, req: Option<Request>) -> Applied
     ensures { result ≡ served_by kind capacity object req }
 {
     match req {
-        Announced::NoRequest => Applied {
+        None => Applied {
             refusal: 14,
             answer: Answer::Empty,
             object,
         },
-        Announced::Asked(request) => object::apply(kind, capacity, object, request),
+        Some(request) => object::apply(kind, capacity, object, request),
     }
 }
 
 // An entry that applies serves the node's req; any other leaves the object.
-fn applied_at(event: Event, kind: Kind, capacity: u8, object: Object, req: Announced) -> Applied
+fn applied_at(
+    event: Event,
+    kind: Kind,
+    capacity: u8,
+    object: Object,
+    req: Option<Request>,
+) -> Applied
     ensures { result ≡ applied_at event kind capacity object req }
 {
     if machine::same_event(event, Event::Applies) {
@@ -126,8 +132,8 @@ pub fn zero_node() -> Node
     ensures { result ≡ zero_node }
 {
     Node {
-        req: Announced::NoRequest,
-        ret: RetVal::NoAnswer,
+        req: None,
+        ret: None,
         wait: false,
         completed: false,
         next: NodeId(0),
