@@ -92,10 +92,8 @@ pub fn executed(
 fn uses_empty(node: Node, line: u8) -> bool
     ensures { result ≡ uses_empty node line }
 {
-    let req = node.req;
-    let ret = node.ret;
-    let no_req = machine::is_empty_req(req);
-    let no_ret = machine::is_empty_ret(ret);
+    let no_req = node.req.is_none();
+    let no_ret = node.ret.is_none();
     (line == 16) & no_req | ((line == 11) | (line == 21)) & no_ret
 }
 

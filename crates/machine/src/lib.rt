@@ -2,12 +2,11 @@
 #![tactic(auto)]
 
 ghost use Rattle.std.specs.Prelude.{◌≡◌, cond};
-ghost use Rattle.machine.specs.Fields.{is_null, is_empty_req, is_empty_ret};
+ghost use Rattle.machine.specs.Fields.{is_null, with_req, with_ret};
 ghost use Rattle.machine.specs.Accesses.{pointer_number, pointed_of, row_from, is_none, writes_behind, writes, writes_any, written_of};
 ghost use Rattle.machine.specs.Events.{event_number, same_event, stays, is_cas, event_found};
 ghost use Rattle.machine.specs.Lines.{line_run};
 ghost use Rattle.machine.specs.Methods.{method_number, method_of, last_line};
-ghost use Rattle.machine.specs.Fields.{with_req, with_ret};
 
 use object::{Answer, Request};
 
@@ -37,24 +36,11 @@ pub const LOCATIONS: usize = 1 + NODES;
 
 pub const CALLS: usize = 256;
 
-// The field req of a node: empty at first.
-#[derive(Clone, Copy)]
-pub enum Announced {
-    NoRequest,
-    Asked(Request),
-}
-
-// The field ret of a node: empty at first.
-#[derive(Clone, Copy)]
-pub enum RetVal {
-    NoAnswer,
-    Answered(Answer),
-}
-
+// A node. Its req and ret are empty at first.
 #[derive(Clone, Copy)]
 pub struct Node {
-    pub req: Announced,
-    pub ret: RetVal,
+    pub req: Option<Request>,
+    pub ret: Option<Answer>,
     pub wait: bool,
     pub completed: bool,
     pub next: NodeId,
@@ -185,51 +171,22 @@ pub fn is_null(node: NodeId) -> bool
     node.0 == NULL
 }
 
-// Whether a node's req is empty, and its ret.
-pub fn is_empty_req(req: Announced) -> bool
-    ensures { result ≡ is_empty_req req }
-{
-    match req {
-        Announced::NoRequest => true,
-        Announced::Asked(_) => false,
-    }
-}
-
-pub fn is_empty_ret(ret: RetVal) -> bool
-    ensures { result ≡ is_empty_ret ret }
-{
-    match ret {
-        RetVal::NoAnswer => true,
-        RetVal::Answered(_) => false,
-    }
-}
-
 // A node with its req or its ret written.
 pub fn with_req(node: Node, request: Request) -> Node
     ensures { result ≡ with_req node request }
 {
-    let ret = node.ret;
-    let next = node.next;
     Node {
-        req: Announced::Asked(request),
-        ret,
-        wait: node.wait,
-        completed: node.completed,
-        next,
+        req: Some(request),
+        ..node
     }
 }
 
 pub fn with_ret(node: Node, answer: Answer) -> Node
     ensures { result ≡ with_ret node answer }
 {
-    let req = node.req;
-    let next = node.next;
     Node {
-        req,
-        ret: RetVal::Answered(answer),
-        wait: node.wait,
-        completed: node.completed,
-        next,
+        ret: Some(answer),
+        ..node
     }
 }
 

@@ -8,6 +8,7 @@ use mathlib.Core.Bool.{Bool, true, false, cond}
 use mathlib.Core.List.{List, [], ◌∷◌, map, reverse_aux}
 use lib.ListN.{length, get_or, set, drop, replicate, drop_of_length-le, get_or-eq_default}
 use lib.Seq.{drop-cons, set-get_or}
+use Rattle.std.specs.Prelude.{Option}
 use Rattle.object.specs.Each.{Each}
 use Rattle.bench_file.specs.Layout.{Fields}
 use Rattle.bench_file.specs.Bytes.{InRange}
@@ -17,7 +18,6 @@ use Rattle.object.specs.declared.Answer.{Answer}
 use Rattle.object.specs.declared.Answer.TheVariants.{Empty}
 use Rattle.object.specs.declared.Object.{Object}
 use Rattle.object.specs.Apply.{Applied}
-use Rattle.machine.specs.declared.Announced.{Announced}
 use Rattle.machine.specs.declared.NodeId.{NodeId}
 use Rattle.machine.specs.declared.Node.{Node}
 use Rattle.machine.specs.declared.Effect.{Effect}
@@ -315,7 +315,7 @@ pub record Serves (s J : State) (answer : Answer) (ob : Applied) : Type 0 where
   pub answers : answer ≡ ob.answer
   pub state : J ≡ with_object s ob.object
 
-module _ (s J : State) (answer : Answer) (ev : Event) (req : Announced) where
+module _ (s J : State) (answer : Answer) (ev : Event) (req : Option Request) where
   pub serves_one : {ob : Applied} → same_event ev Applies ≡ true → ob ≡ served_by s.kind s.capacity s.object req → answer ≡ ob.answer → J ≡ with_object s ob.object
       → Serves s J answer (applied_at ev s.kind s.capacity s.object req)
   serves_one q e a j = rw (q, ← e) (record { answers = a; state = j })

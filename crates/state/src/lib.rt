@@ -6,8 +6,8 @@ ghost use Rattle.object.specs.Each.{every};
 ghost use Rattle.machine.specs.Methods.{last_node, tail_nullable};
 ghost use Rattle.state.specs.Range.{pointer_in_range, line_in_range, requests_in_range, cc_pointers_in_range, dsm_pointers_in_range, pointers_in_range, thread_in_range, req_in_range, ret_in_range, node_in_range, slot_in_range, row_of_thread, rows_in_range, head_in_range, in_range};
 
-use machine::{Announced, Method, Node, NodeId, RetVal, Thread};
-use object::{Kind, Object, Request};
+use machine::{Method, Node, NodeId, Thread};
+use object::{Answer, Kind, Object, Request};
 
 // One place of the rows of requests.
 #[derive(Clone, Copy)]
@@ -131,21 +131,21 @@ fn thread_in_range(method: Method, last: u8, h: u8, thread: Thread) -> bool
     requests_fit & line_fits & pointers_fit & (thread.served <= h)
 }
 
-fn req_in_range(kind: Kind, req: Announced) -> bool
+fn req_in_range(kind: Kind, req: Option<Request>) -> bool
     ensures { result ≡ req_in_range kind req }
 {
     match req {
-        Announced::NoRequest => true,
-        Announced::Asked(request) => object::knows(kind, request),
+        None => true,
+        Some(request) => object::knows(kind, request),
     }
 }
 
-fn ret_in_range(capacity: u8, ret: RetVal) -> bool
+fn ret_in_range(capacity: u8, ret: Option<Answer>) -> bool
     ensures { result ≡ ret_in_range capacity ret }
 {
     match ret {
-        RetVal::NoAnswer => true,
-        RetVal::Answered(answer) => object::answer_in_range(capacity, answer),
+        None => true,
+        Some(answer) => object::answer_in_range(capacity, answer),
     }
 }
 

@@ -7,8 +7,8 @@ ghost use Rattle.state.specs.Range.{in_range, counts_in_range};
 ghost use Rattle.step.specs.Entry.{zero_node, served_by, applied_at, more_of, plus, wrapped};
 ghost use Rattle.step.specs.Step.{refused, outcome_by, step_of};
 
-use machine::{Announced, Event, Node, NodeId, RetVal, ThreadId};
-use object::{Answer, Kind, Object};
+use machine::{Event, Node, NodeId, ThreadId};
+use object::{Answer, Kind, Object, Request};
 use refusal::Refusal;
 use state::{Counts, State};
 
@@ -29,17 +29,17 @@ fn refused(number: u8, state: State) -> Stepped
 }
 
 // A node's req applied to the object: the answer and the object after it.
-pub fn served_by(kind: Kind, capacity: u8, object: Object, req: Announced) -> Result<(Answer, Object), Refusal>
+pub fn served_by(kind: Kind, capacity: u8, object: Object, req: Option<Request>) -> Result<(Answer, Object), Refusal>
     ensures { as_applied object result ≡ served_by kind capacity object req }
 {
     match req {
-        Announced::NoRequest => Err(Refusal::OutOfRange),
-        Announced::Asked(request) => object::apply(kind, capacity, object, request),
+        None => Err(Refusal::OutOfRange),
+        Some(request) => object::apply(kind, capacity, object, request),
     }
 }
 
 // An entry that applies serves the node's req; any other leaves the object.
-fn applied_at(event: Event, kind: Kind, capacity: u8, object: Object, req: Announced) -> Result<(Answer, Object), Refusal>
+fn applied_at(event: Event, kind: Kind, capacity: u8, object: Object, req: Option<Request>) -> Result<(Answer, Object), Refusal>
     ensures { as_applied object result ≡ applied_at event kind capacity object req }
 {
     if machine::same_event(event, Event::Applies) {
@@ -120,8 +120,8 @@ pub fn zero_node() -> Node
     ensures { result ≡ zero_node }
 {
     Node {
-        req: Announced::NoRequest,
-        ret: RetVal::NoAnswer,
+        req: None,
+        ret: None,
         wait: false,
         completed: false,
         next: NodeId(0),

@@ -1,8 +1,8 @@
 // A step's refusal, and what differs between the state handed in and the state handed back, over all places of both.
 use crate::make::Word;
 use console::Output;
-use machine::{Announced, Node, RetVal, Thread, ThreadId};
-use object::{Object, Request};
+use machine::{Node, Thread, ThreadId};
+use object::{Answer, Object, Request};
 use state::{Counts, Slot, State};
 
 fn wide8(x: u8) -> u64 {
@@ -57,17 +57,17 @@ fn request_said(request: Request) -> u64 {
     )
 }
 
-fn req_said(req: Announced) -> u64 {
+fn req_said(req: Option<Request>) -> u64 {
     match req {
-        Announced::NoRequest => said(3, 0),
-        Announced::Asked(request) => request_said(request),
+        None => said(3, 0),
+        Some(request) => request_said(request),
     }
 }
 
-fn ret_said(ret: RetVal) -> u64 {
+fn ret_said(ret: Option<Answer>) -> u64 {
     match ret {
-        RetVal::NoAnswer => said(3, 0),
-        RetVal::Answered(answer) => said(
+        None => said(3, 0),
+        Some(answer) => said(
             object::answer_mark(answer) | 4,
             object::answer_value(answer),
         ),
