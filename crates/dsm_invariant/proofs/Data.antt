@@ -22,7 +22,7 @@ use Rattle.object.specs.Apply.{knows, fresh_object}
 use Rattle.object.proofs.Choice.{by_equal, either, unless}
 use Rattle.machine.specs.declared.Node.{Node}
 use Rattle.machine.specs.declared.Thread.{Thread}
-use Rattle.machine.specs.declared.Effect.{Effect}
+use Rattle.machine.specs.Effect.{Effect}
 use Rattle.machine.specs.declared.Event.TheVariants.{Swaps, Applies}
 use Rattle.machine.specs.Fields.{is_empty_req, is_empty_ret}
 use Rattle.machine.specs.Events.{same_event}

@@ -127,10 +127,9 @@ pub struct Row {
     pub event: Event,
 }
 
-// What a line does: refusal 0 with the thread, the node that it writes, if it writes one, and Tail after it, or 14 with all as it was.
+// What a line makes of its thread, of the node that it writes, if it writes one, and of Tail.
 #[derive(Clone, Copy)]
-pub struct Effect {
-    pub refusal: u8,
+pub struct After {
     pub thread: Thread,
     pub node: Node,
     pub tail: NodeId,

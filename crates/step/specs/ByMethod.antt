@@ -10,7 +10,7 @@ use Rattle.machine.specs.declared.NodeId.{NodeId}
 use Rattle.machine.specs.declared.Node.{Node}
 use Rattle.machine.specs.declared.Thread.{Thread}
 use Rattle.machine.specs.declared.Event.{Event}
-use Rattle.machine.specs.declared.Effect.{Effect}
+use Rattle.machine.specs.Effect.{Effect}
 use Rattle.machine.specs.Accesses.{Access, to_null, pointed}
 use Rattle.cc_lines.specs.Lines as CcLines
 use Rattle.cc_synch.specs.Effect as CcEffect

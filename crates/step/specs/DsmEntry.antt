@@ -6,7 +6,7 @@ use Rattle.machine.specs.declared.ThreadId.{ThreadId}
 use Rattle.machine.specs.declared.NodeId.{NodeId}
 use Rattle.machine.specs.declared.Node.{Node}
 use Rattle.machine.specs.declared.Event.{Event}
-use Rattle.machine.specs.declared.Effect.{Effect}
+use Rattle.machine.specs.Effect.{Effect}
 use Rattle.machine.specs.Accesses.{Access}
 use Rattle.dsm_lines.specs.Lines.{Line, line_of, empties, pointed, target, event_in}
 use Rattle.dsm_lines.specs.Lines as lines

@@ -13,7 +13,7 @@ use Rattle.machine.specs.declared.Thread.{Thread}
 use Rattle.machine.specs.declared.Event.{Event}
 use Rattle.machine.specs.declared.Event.TheVariants.{Blank, Swaps, TurnBegins, Applies, Spins}
 use Rattle.machine.specs.declared.Row.{Row}
-use Rattle.machine.specs.declared.Effect.{Effect}
+use Rattle.machine.specs.Effect.{Effect}
 use Rattle.machine.specs.Accesses.{Access, pointed}
 use Rattle.machine.specs.Events.{same_event}
 use Rattle.cc_lines.specs.Lines.{line_of, row_of, accesses_by, event_in}

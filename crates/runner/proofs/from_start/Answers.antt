@@ -9,7 +9,7 @@ use Rattle.object.specs.declared.Object.{Object}
 use Rattle.object.specs.Apply.{as_applied}
 use Rattle.object.proofs.Taken.{taken_answer, taken_object}
 use Rattle.refusal.specs.declared.Refusal.{Refusal}
-use Rattle.machine.specs.declared.Effect.{Effect}
+use Rattle.machine.specs.Effect.{Effect}
 use Rattle.machine.specs.declared.Event.{Event}
 use Rattle.machine.specs.declared.Event.TheVariants.{Blank, Applies}
 use Rattle.machine.specs.declared.Method.{Method}
