@@ -37,9 +37,8 @@ fn from_start(schedule: &[u8], start: State) -> Result<Played, Refusal>
     let mut order = [0u16; machine::CALLS];
     let mut given = [kept::NO_CALL; machine::NODES];
     let mut turns = [kept::NO_TURN; 16];
-    let mut i = 0usize;
-    while i < schedule.len() {
-        let thread = ThreadId(schedule[i]);
+    for (i, &entry) in schedule.iter().enumerate() {
+        let thread = ThreadId(entry);
         let t = thread.0 as usize;
         // Two kinds of entry change nothing but a count: a spin that makes no remote reference, looked for before all else, and a blank. Where the entry is no
         // such spin, the thread is copied out again: one copy for both is slower.
@@ -50,7 +49,6 @@ fn from_start(schedule: &[u8], start: State) -> Result<Played, Refusal>
             let spun = waited.0 as usize;
             if state.nodes[spun].wait & copies::at_hand(method, state.copies[at], waited, thread) {
                 state.counts.spins += 1;
-                i += 1;
                 continue;
             }
         }
@@ -60,7 +58,6 @@ fn from_start(schedule: &[u8], start: State) -> Result<Played, Refusal>
         let row_event = row.event;
         if machine::same_event(row_event, Event::Blank) {
             state.counts.blanks += 1;
-            i += 1;
             continue;
         }
         let pointer = row.node;
@@ -142,7 +139,6 @@ fn from_start(schedule: &[u8], start: State) -> Result<Played, Refusal>
         kept::note_entry(
             &mut turns, &mut given, &mut order, event, thread, assigned, counts, call,
         );
-        i += 1;
     }
     Ok(Played {
         counts: state.counts,
