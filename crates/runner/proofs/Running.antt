@@ -50,9 +50,8 @@ use Rattle.history.proofs.Told.{is_so}
 use Rattle.claims.specs.Entries.{assigned_by, entry_by, start_by, entries_from, meets_no_null, history_by}
 use Rattle.claims.proofs.Counted.{next_fits}
 use Rattle.kept.specs.declared.Kept.{Kept}
-use Rattle.runner.specs.declared.Played.{Played}
 use Rattle.kept.specs.Kept.{place_of, call_at, kept_of, unkept, after_entry, after_serving}
-use Rattle.runner.specs.Played.{Startable, unplayed, played_from}
+use Rattle.runner.specs.Played.{Startable, Played, unplayed, played_from}
 use Rattle.runner.proofs.Invariant.{Standing, standing_start, swaps_most, Next, sound, line_most_lem, waited_below, begun_now, null_alone, Untested, untested, standing_next, next_of, remote_of_lem}
 use Rattle.runner.proofs.Tabled.{is_tabled}
 use Rattle.runner.proofs.Tables.{Tables, tables_start, place, served, entered_calls, served_calls, order_after, given_after, turns_after, place_below, served_below, tables_next}

@@ -336,7 +336,7 @@ returns-then-effect-ne0 c =
           ])
           (w.effect-is ∙ w.run_line-effect.ensures)
     ] in
-    c.unplayed.ensures ∙ looping_null now at (called_by seen acts refl refl refl refl) c.if-effect-ne0.true
+    looping_null now at (called_by seen acts refl refl refl refl) c.if-effect-ne0.true
 
 pub bounds-kept-call : goal.bounds-kept-call
 bounds-kept-call c = call_small c
