@@ -84,7 +84,7 @@ fn from_start(schedule: &[u8], start: State) -> Played
         let pointer = row.node;
         let tail = state.tail;
         let tmp = named.tmp;
-        let points = machine::pointed(pointer, named.own, named.cur, tmp, named.my, named.pred);
+        let points = machine::pointed(pointer, named);
         let m = points.0 as usize;
         let mut node = step::zero_node();
         if m < machine::NODES {

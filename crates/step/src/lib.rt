@@ -179,9 +179,7 @@ fn enter(state: State, thread: ThreadId) -> Stepped
     let line = machine::line_run(named);
     let row = methods::row_of(method, line);
     let pointer = row.node;
-    let target = machine::pointed(
-        pointer, named.own, named.cur, named.tmp, named.my, named.pred,
-    );
+    let target = machine::pointed(pointer, named);
     let node = node_at(nodes, target);
     let next = node.next;
     let behind = node_at(nodes, methods::node_behind(method, next));
