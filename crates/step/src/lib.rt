@@ -224,7 +224,7 @@ fn enter(state: State, thread: ThreadId) -> Stepped
 pub fn step(state: State, thread: ThreadId) -> Stepped
     ensures { result ≡ step_of state thread }
 {
-    if !state::in_range(state) {
+    if !state::in_range(&state) {
         return refused(14, state);
     }
     if state.n <= thread.0 {
