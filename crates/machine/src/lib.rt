@@ -4,7 +4,7 @@
 ghost use Rattle.std.specs.Prelude.{◌≡◌, cond};
 ghost use Rattle.machine.specs.Fields.{is_null, with_req, with_ret};
 ghost use Rattle.machine.specs.Accesses.{pointed, row_from, row_in, is_none, writes_behind, writes, writes_any, written_of};
-ghost use Rattle.machine.specs.Events.{same_event, stays, is_cas, event_found};
+ghost use Rattle.machine.specs.Events.{stays, is_cas, event_found};
 ghost use Rattle.machine.specs.Lines.{line_run};
 ghost use Rattle.machine.specs.Methods.{method_number, method_of, last_line};
 
@@ -288,12 +288,6 @@ pub fn written(row: Row, node: NodeId, behind: NodeId) -> NodeId
     ensures { result ≡ written_of row node behind }
 {
     node_if(writes_behind(row.second), behind, node)
-}
-
-pub fn same_event(event: Event, other: Event) -> bool
-    ensures { result ≡ same_event event other }
-{
-    event == other
 }
 
 // Whether a line that waits by an access stays: for wait while it is true, for next while it is null.

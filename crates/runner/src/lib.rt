@@ -76,7 +76,7 @@ fn from_start(schedule: &[u8], start: State) -> Played
         let line = machine::line_run(named);
         let row = rows[line as usize];
         let row_event = row.event;
-        if machine::same_event(row_event, Event::Blank) {
+        if row_event == Event::Blank {
             state.counts.blanks += 1;
             i += 1;
             continue;
@@ -93,7 +93,7 @@ fn from_start(schedule: &[u8], start: State) -> Played
         let req = node.req;
         let next = node.next;
         let event = machine::event_in(row, node, tail.0 == tmp.0);
-        let applies = machine::same_event(event, Event::Applies);
+        let applies = event == Event::Applies;
         let place = step::call_place(thread, named.begun);
         let slot = state.requests[place];
         let request = slot.request;

@@ -50,7 +50,7 @@ fn applied_at(
 ) -> Applied
     ensures { result ≡ applied_at event kind capacity object req }
 {
-    if machine::same_event(event, Event::Applies) {
+    if event == Event::Applies {
         return served_by(kind, capacity, object, req);
     }
     Applied {

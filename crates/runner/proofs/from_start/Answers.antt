@@ -15,6 +15,7 @@ use Rattle.machine.specs.declared.Row.{Row}
 use Rattle.machine.specs.declared.ThreadId.{ThreadId}
 use Rattle.machine.specs.Accesses.{pointed, accesses_of, written_of}
 use Rattle.machine.specs.Events.{same_event, event_found}
+use Rattle.machine.proofs.Same.{events_equal}
 use Rattle.machine.specs.Sizes.{most_calls, most_nodes}
 use Rattle.cc_lines.specs.Lines as CcLines
 use Rattle.cc_synch.specs.Effect as CcEffect
@@ -153,8 +154,8 @@ serves : (c : After-call_place-call)
     → Serves c.loop-i.state c.if-applies.state c.if-applies.answer (applied_at c.event_in-event.result c.loop-i.state.kind c.loop-i.state.capacity c.loop-i.state.object c.if-m-lt-NODES.node.req)
 serves c =
     elim c.if-applies.branch [
-      | then-applies w ↦ serves_it c.loop-i.invariant c.loop-i-test.true (read_of c) c.same_event-applies.ensures w.if-applies.true w.served_by-applied.ensures w.answer-is w.state-is
-      | else-applies w ↦ serves_none _ _ _ _ _ (sym c.same_event-applies.ensures ∙ w.if-applies.false) w.answer-is w.state-is
+      | then-applies w ↦ serves_it c.loop-i.invariant c.loop-i-test.true (read_of c) (c.eq-applies.ensures ∙ events_equal _ Applies) w.if-applies.true w.served_by-applied.ensures w.answer-is w.state-is
+      | else-applies w ↦ serves_none _ _ _ _ _ (sym (c.eq-applies.ensures ∙ events_equal _ Applies) ∙ w.if-applies.false) w.answer-is w.state-is
     ]
 
 -- an entry that applies leaves the nodes
@@ -207,7 +208,7 @@ their_small c =
     let at = c.loop-i-test.true in
     let done = c.if-effect-ne0.false in
     let chosen : Bool → ℕ = λ serves. cond serves (get_or c.loop-i.given c.pointed-points.result.0 0) c.call_place-call.result in
-    let is = is_served _ _ _ now.fits now.running at (called all) done c.call_place-call.ensures c.same_event-applies.ensures (c.given_at-served.ensures ∙ sym (ap chosen c.if-applies-2.true)) in
+    let is = is_served _ _ _ now.fits now.running at (called all) done c.call_place-call.ensures (c.eq-applies.ensures ∙ events_equal _ Applies) (c.given_at-served.ensures ∙ sym (ap chosen c.if-applies-2.true)) in
     omega (arith, is, their_below _ _ _ now.fits now.running at (fine _ _ _ now.fits now.running at (called all) done))
 
 -- what stands in the place of a call past the end of the array
@@ -255,7 +256,7 @@ stored c =
 
 -- the calls after the entry: its own, and the one that it serves, if it does
 kept_is : (c : After-note_entry)
-    → Stored (set c.loop-i.kept c.call_place-call.result c.after_entry.result) zero_kept (get_or c.loop-i.given c.pointed-points.result.0 0) c.call_place-call.result c.if-applies.answer (thread_id (get_or c.args.schedule.now c.loop-i.i 0)) (get_or c.loop-i.turns (get_or c.args.schedule.now c.loop-i.i 0) 0) c.same_event-applies.result c.if-applies-2.kept
+    → Stored (set c.loop-i.kept c.call_place-call.result c.after_entry.result) zero_kept (get_or c.loop-i.given c.pointed-points.result.0 0) c.call_place-call.result c.if-applies.answer (thread_id (get_or c.args.schedule.now c.loop-i.i 0)) (get_or c.loop-i.turns (get_or c.args.schedule.now c.loop-i.i 0) 0) c.eq-applies.result c.if-applies-2.kept
 kept_is c =
     let calls = set c.loop-i.kept c.call_place-call.result c.after_entry.result in
     let g = get_or c.loop-i.given c.pointed-points.result.0 0 in
@@ -263,7 +264,7 @@ kept_is c =
     let answer = c.if-applies.answer in
     let t = thread_id (get_or c.args.schedule.now c.loop-i.i 0) in
     let turn = get_or c.loop-i.turns t.0 0 in
-    let applies = c.same_event-applies.result in
+    let applies = c.eq-applies.result in
     let served : ℕ → Kept = λ i. after_serving (get_or calls i zero_kept) true answer t turn in
     elim c.if-applies-2.branch [
       | then-applies-2 w ↦
@@ -291,17 +292,17 @@ loop-i-preserved-then-state-spun c =
 pub bounds-rows-line : goal.bounds-rows-line
 bounds-rows-line c = line_below c.loop-i.invariant c.loop-i-test.true c.line_run-line.ensures
 
-pub overflow_add-state-then-same_event : goal.overflow_add-state-then-same_event
-overflow_add-state-then-same_event c =
+pub overflow_add-state-then-eq : goal.overflow_add-state-then-eq
+overflow_add-state-then-eq c =
     let now = c.loop-i.invariant in
     let at = c.loop-i-test.true in
-    omega (arith, counts_fit now at (blank now at c.line_run-line.ensures c.same_event.ensures c.if-same_event.true))
+    omega (arith, counts_fit now at (blank now at c.line_run-line.ensures (c.eq.ensures ∙ events_equal _ Blank) c.if-eq.true))
 
-pub loop-i-preserved-then-same_event : goal.loop-i-preserved-then-same_event
-loop-i-preserved-then-same_event c =
+pub loop-i-preserved-then-eq : goal.loop-i-preserved-then-eq
+loop-i-preserved-then-eq c =
     let now = c.loop-i.invariant in
     let at = c.loop-i-test.true in
-    looping_quiet now at (blank now at c.line_run-line.ensures c.same_event.ensures c.if-same_event.true)
+    looping_quiet now at (blank now at c.line_run-line.ensures (c.eq.ensures ∙ events_equal _ Blank) c.if-eq.true)
 
 pub bounds-state-place : goal.bounds-state-place
 bounds-state-place c = let now = c.loop-i.invariant in slot_few _ _ _ now.fits now.running c.loop-i-test.true c.call_place-place.ensures
@@ -314,8 +315,8 @@ returns-then-effect-ne0 c =
     let seen = read (goal.at.returns-then-effect-ne0 c).After-call_place-place in
     let served : Serves s c.if-applies.state c.if-applies.answer (applied_at c.event_in-event.result s.kind s.capacity s.object c.if-m-lt-NODES.node.req) =
     elim c.if-applies.branch [
-      | then-applies w ↦ serves_it now at seen c.same_event-applies.ensures w.if-applies.true w.served_by-applied.ensures w.answer-is w.state-is
-      | else-applies w ↦ serves_none _ _ _ _ _ (sym c.same_event-applies.ensures ∙ w.if-applies.false) w.answer-is w.state-is
+      | then-applies w ↦ serves_it now at seen (c.eq-applies.ensures ∙ events_equal _ Applies) w.if-applies.true w.served_by-applied.ensures w.answer-is w.state-is
+      | else-applies w ↦ serves_none _ _ _ _ _ (sym (c.eq-applies.ensures ∙ events_equal _ Applies) ∙ w.if-applies.false) w.answer-is w.state-is
     ] in
     let acts : c.match-method.effect ≡ answered c.args.start.method s (thread_id (get_or c.args.schedule.now c.loop-i.i 0)) c.if-m-lt-NODES.node c.event_in-event.result c.call_place-place.result =
     elim c.match-method.branch [
@@ -350,7 +351,7 @@ loop-i-preserved c =
     (looping_next c.loop-i.invariant c.loop-i-test.true (called all) (kept_is c) c.if-effect-ne0.false (serves all)
     (ap (λ (l : List Node). set l c.written-written.result.0 c.match-method.effect.node) (nodes_same all)) c.plus-counts_after.ensures
     (record {
-      of_applies = c.same_event-applies.ensures;
+      of_applies = c.eq-applies.ensures ∙ events_equal _ Applies;
       of_call = c.call_place-call.ensures;
       of_served = refl;
       of_assigned = c.assigned-assigned.ensures;
