@@ -280,7 +280,7 @@ fn convert_head(file: &[u8], head: Head, wanted: u16, out: &mut [u8]) -> Written
 {
     let object = head.object;
     let method = head.method;
-    let by = machine::method_number(method);
+    let by = u8::from(method);
     if most_method(wanted) < by {
         return Written {
             refusal: 16,

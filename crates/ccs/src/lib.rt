@@ -38,7 +38,7 @@ fn judged_numbers(judged: Judged) -> [usize; 8]
             let object = head.object;
             let number = u8::from(object);
             let method = head.method;
-            let by = machine::method_number(method);
+            let by = u8::from(method);
             [
                 head.version as usize,
                 number as usize,

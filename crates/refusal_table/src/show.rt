@@ -50,7 +50,7 @@ pub(crate) fn judged(output: &mut Output, file: &[u8]) {
             let kind = head.object;
             let object = u8::from(kind);
             let method = head.method;
-            let by = machine::method_number(method);
+            let by = u8::from(method);
             bytes(output, &[object, head.n, head.h, head.capacity, by]);
             output.spaced(requests as u64);
             output.spaced(entries as u64);

@@ -43,7 +43,7 @@ use Rattle.state.specs.Range.{in_range_by, counts_in_range}
 use Rattle.state.specs.Shape.{Shaped}
 use Rattle.step.specs.Entry.{zero_node, served_by, applied_at, plus, wrapped, named, line}
 use Rattle.step.specs.ByMethod.{node_by, event_by, applied_by, effect_by, entered_by, out_by, null_met_by}
-use Rattle.step.proofs.Entering.{Called, made, at_points, is_node, is_event, is_applied, unwritten, remote_is, sums, line_out, line_through, entered_by_lem, fits_wrapped}
+use Rattle.step.proofs.Entering.{Called, made, at_points, is_node, is_event, is_applied, unwritten, remote_is, sums, line_out, line_number, line_through, entered_by_lem, fits_wrapped}
 use Rattle.history.specs.Entries.{Entry, thread_id, Is, how_many, remote_in}
 use Rattle.history.specs.Terms.{no_call, no_turn}
 use Rattle.history.proofs.Told.{is_so}
@@ -236,8 +236,10 @@ module _ (m : Method) (f : Fields) (bytes : List ℕ) (fits : InRange f) where
       is_found = is_node m s t shape range below called
 
       -- a line that is refused meets null, and so the run is 14
-      pub refused_run : (e.refusal ≡ 0 → ⊥) → unplayed 14 ≡ played_from (start_by m f) f.schedule
-      refused_run q = let met = sym only_null ∙ line_out m s t shape range below called q in rw (null_met met)
+      pub refused_run : (e.refusal ≡ 0 → ⊥) → unplayed e.refusal ≡ played_from (start_by m f) f.schedule
+      refused_run q =
+          let met = sym only_null ∙ line_out m s t shape range below called q in
+          ap unplayed (line_number m s t shape range below called q) ∙ rw (null_met met) refl
 
       -- one that is not meets none
       module _ (done : e.refusal ≡ 0) where
@@ -415,7 +417,7 @@ module _ {bytes : List ℕ} {start : State} {method : Method} {rows : List Row} 
         (looping_on refl refl refl refl inside (running_booked method x.file bytes x.fits x.running inside called done stored sum (rw serves.answers at b)))
 
     -- or the run is refused
-    pub looping_null : (e.refusal ≡ 0 → ⊥) → unplayed 14 ≡ played_from start bytes
+    pub looping_null : (e.refusal ≡ 0 → ⊥) → unplayed e.refusal ≡ played_from start bytes
     looping_null refused = rw (x.entries, x.fresh) (refused_run method x.file bytes x.fits x.running inside called refused)
 
   -- the end of the loop

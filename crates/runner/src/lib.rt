@@ -56,14 +56,14 @@ fn from_start(schedule: &[u8], start: State) -> Result<Played, Refusal>
         let line = machine::line_run(named);
         let row = rows[line as usize];
         let row_event = row.event;
-        if machine::same_event(row_event, Event::Blank) {
+        if row_event == Event::Blank {
             state.counts.blanks += 1;
             continue;
         }
         let pointer = row.node;
         let tail = state.tail;
         let tmp = named.tmp;
-        let points = machine::pointed(pointer, named.own, named.cur, tmp, named.my, named.pred);
+        let points = machine::pointed(pointer, named);
         let m = points.0 as usize;
         let mut node = step::zero_node();
         if m < machine::NODES {
@@ -72,7 +72,7 @@ fn from_start(schedule: &[u8], start: State) -> Result<Played, Refusal>
         let req = node.req;
         let next = node.next;
         let event = machine::event_in(row, node, tail.0 == tmp.0);
-        let applies = machine::same_event(event, Event::Applies);
+        let applies = event == Event::Applies;
         let place = step::call_place(thread, named.begun);
         let slot = state.requests[place];
         let request = slot.request;
@@ -87,7 +87,9 @@ fn from_start(schedule: &[u8], start: State) -> Result<Played, Refusal>
         }
         // No line of CC-Synch is refused in a run; one of DSM-Synch is where it meets null.
         let effect = match method {
-            Method::CcSynch => cc_synch::executed(line, named, node, tail, h, request, answer),
+            Method::CcSynch => {
+                Ok(cc_synch::executed(line, named, node, tail, h, request, answer))
+            }
             Method::DsmSynch => {
                 let b = next.0 as usize;
                 let mut behind = step::zero_node();
@@ -97,9 +99,7 @@ fn from_start(schedule: &[u8], start: State) -> Result<Played, Refusal>
                 dsm_synch::run_line(thread, named, node, behind, tail, h, request, answer)
             }
         };
-        if effect.refusal != 0 {
-            return Err(Refusal::OutOfRange);
-        }
+        let done = effect?;
         // The row's accesses are read here, where alone they are needed.
         let accesses = rows[line as usize];
         let remote = copies::refer_all(
@@ -114,19 +114,16 @@ fn from_start(schedule: &[u8], start: State) -> Result<Played, Refusal>
         let more = step::more_of(event, remote);
         let written = machine::written(accesses, points, next);
         let w = written.0 as usize;
-        let thread_after = effect.thread;
-        let node_after = effect.node;
-        let tail_after = effect.tail;
         let counts_after = step::plus(counts, more);
-        state.threads[t] = thread_after;
+        state.threads[t] = done.thread;
         if machine::writes_any(accesses) {
             if w < machine::NODES {
-                state.nodes[w] = node_after;
+                state.nodes[w] = done.node;
             }
         }
-        state.tail = tail_after;
+        state.tail = done.tail;
         state.counts = counts_after;
-        let call = step::call_place(thread, thread_after.begun);
+        let call = step::call_place(thread, done.thread.begun);
         let mine = kept[call];
         kept[call] = kept::after_entry(mine, event, remote, i as u32);
         if applies {

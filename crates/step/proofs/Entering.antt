@@ -159,7 +159,7 @@ module _ (m : Method) (s : State) (t : ThreadId) (shape : Shaped s) (fits : in_r
     line_through h = let g = through (rw is_answer at h) in (g.0, is_answer ∙ g.1)
 
     -- the line is refused
-    line_number : (e.refusal ≡ 0 → ⊥) → e.refusal ≡ 14
+    pub line_number : (e.refusal ≡ 0 → ⊥) → e.refusal ≡ 14
     line_number h =
         ap (λ (e : Effect). e.refusal) is_answer
         ∙ refused_14 t.0 (named s t) (node_by m s t) (behind_by m s t) s.tail s.h (request s t) (applied_by m s t).answer m (rw is_answer at h)

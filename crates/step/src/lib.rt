@@ -37,7 +37,7 @@ fn applied_at(
 ) -> Result<(Answer, Object), Refusal>
     ensures { as_applied object result ≡ applied_at event kind capacity object req }
 {
-    if machine::same_event(event, Event::Applies) {
+    if event == Event::Applies {
         return served_by(kind, capacity, object, req);
     }
     Ok((Answer::Empty, object))
@@ -55,10 +55,10 @@ pub fn more_of(event: Event, remote: u8) -> Counts
     ensures { result ≡ more_of event remote }
 {
     Counts {
-        records: u32::from(machine::same_event(event, Event::Swaps)),
-        turns: u32::from(machine::same_event(event, Event::TurnBegins)),
-        blanks: u32::from(machine::same_event(event, Event::Blank)),
-        spins: u32::from(machine::same_event(event, Event::Spins)),
+        records: u32::from(event == Event::Swaps),
+        turns: u32::from(event == Event::TurnBegins),
+        blanks: u32::from(event == Event::Blank),
+        spins: u32::from(event == Event::Spins),
         remote: u32::from(remote),
     }
 }
@@ -132,9 +132,7 @@ fn enter(state: State, thread: ThreadId) -> Result<State, Refusal>
     let named = state.threads[t];
     let line = machine::line_run(named);
     let row = methods::row_of(method, line);
-    let target = machine::pointed(
-        row.node, named.own, named.cur, named.tmp, named.my, named.pred,
-    );
+    let target = machine::pointed(row.node, named);
     let node = node_at(state.nodes, target);
     let next = node.next;
     let behind = node_at(state.nodes, methods::node_behind(method, next));

@@ -102,11 +102,11 @@ fn words(output: &mut Output, whole: &[u8], at: usize, part: &[u8], before: u64,
 fn head(output: &mut Output, a: State, b: State) {
     let stepped_by = a.method;
     let steps_by = b.method;
-    let method = machine::method_number(steps_by);
+    let method = u8::from(steps_by);
     single(
         output,
         b"method",
-        wide8(machine::method_number(stepped_by)),
+        wide8(u8::from(stepped_by)),
         wide8(method),
     );
     single(output, b"n", wide8(a.n), wide8(b.n));
