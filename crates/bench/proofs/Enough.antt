@@ -7,6 +7,9 @@ use mathlib.Core.Bool.{Bool, true, false, cond}
 use mathlib.Core.List.{List}
 use lib.ListN.{length, replicate}
 use borrow.Author.Tests.{le-ltb}
+use Rattle.refusal.specs.declared.Refusal.{Refusal}
+use Rattle.refusal.specs.declared.Refusal.TheVariants.{CutOff, Mark, Version, Object, Threads, Bound, Capacity, Count, Request, ScheduleLength, Entry, Trailing, Buffer, OutOfRange, Method, Conversion}
+use Rattle.refusal.specs.Numbers.{number}
 use Rattle.object.specs.Each.{sum_of}
 use Rattle.object.proofs.Choice.{by_test}
 use Rattle.object.proofs.Each.{each_map}
@@ -21,7 +24,7 @@ use Rattle.claims.specs.Entries.{history_of, clear_of}
 use Rattle.claims.specs.Result.{Result, refused_result, result_as}
 use Rattle.claims.proofs.Room.{requests_few}
 use Rattle.dsm_claims.proofs.Either.{all_swaps_few}
-use Rattle.bench.specs.declared.RunAnswer.{RunAnswer}
+use Rattle.bench.specs.Answer.{RunAnswer}
 use Rattle.bench.specs.Run.{result_in, enough_for_records, written, records_laid}
 use Rattle.bench.specs.Promise.{answer_of, Runs}
 use Rattle.bench.proofs.InPlace.{laid_back}
@@ -40,6 +43,25 @@ pub record Ran (bytes records : List ℕ) (counts : Counts) : Type 0 where
 clear_result_lem : (clear : Bool) (result : Result) → (cond clear result (refused_result 14)).refusal ≡ 0 → clear ≡ true
 clear_result_lem true result e = refl
 clear_result_lem false result e = absurd (omega (arith, e))
+
+-- a refusal has a number, which is not 0
+pub number_some : (r : Refusal) → 1 ≤ number r
+number_some CutOff = omega arith
+number_some Mark = omega arith
+number_some Version = omega arith
+number_some Object = omega arith
+number_some Threads = omega arith
+number_some Bound = omega arith
+number_some Capacity = omega arith
+number_some Count = omega arith
+number_some Request = omega arith
+number_some ScheduleLength = omega arith
+number_some Entry = omega arith
+number_some Trailing = omega arith
+number_some Buffer = omega arith
+number_some OutOfRange = omega arith
+number_some Method = omega arith
+number_some Conversion = omega arith
 
 -- what is shown of a refusal by its number, and of 14 where a run meets null, is shown of every result that is refused
 pub by_refusal : {A : Type 0} (shown : Judgement → A) (refused : ℕ → A) → ((number : ℕ) → shown (refused_by number) ≡ refused number)

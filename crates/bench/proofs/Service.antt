@@ -27,12 +27,11 @@ use Rattle.claims.specs.Entries.{history_of, clear_of}
 use Rattle.claims.specs.Claims.{Claimed}
 use Rattle.claims.specs.Result.{Result, refused_result}
 use Rattle.dsm_claims.proofs.Either.{demand_3_of_files, claim_whole, all_swaps_asked, all_swaps_few}
-use Rattle.runner.specs.declared.Played.{Played}
 use Rattle.kept.specs.Kept.{place_of, call_at, kept_of, unkept}
-use Rattle.runner.specs.Played.{played_by, unplayed, played_in}
+use Rattle.runner.specs.Played.{Played, played_by, unplayed, played_in}
 use Rattle.runner.proofs.Tabled.{tabled_at}
 use Rattle.runner.proofs.Tables.{call_there}
-use Rattle.bench.specs.declared.RunAnswer.{RunAnswer}
+use Rattle.bench.specs.Answer.{RunAnswer}
 use Rattle.bench.specs.Records.{kept_record, record_at, records_in}
 use Rattle.bench.specs.Run.{result_in, written}
 use Rattle.bench.specs.Promise.{answer_of, Runs}

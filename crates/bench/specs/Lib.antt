@@ -1,3 +1,4 @@
+pub mod Answer
 pub mod Promise
 pub mod Records
 pub mod Run

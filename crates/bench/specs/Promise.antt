@@ -7,7 +7,7 @@ use Rattle.history.specs.Terms.{record_length, records_of}
 use Rattle.claims.specs.Entries.{history_of, clear_of}
 use Rattle.claims.specs.Claims.{Claimed, Demand3Of}
 use Rattle.claims.specs.Result.{Result}
-use Rattle.bench.specs.declared.RunAnswer.{RunAnswer}
+use Rattle.bench.specs.Answer.{RunAnswer}
 use Rattle.bench.specs.Run.{result_in, written}
 
 -- a result without its records, which the buffer has

@@ -3,38 +3,21 @@
 
 ghost use Rattle.std.specs.Prelude.{ℕ, ◌*◌, ◌≤◌, ◌<◌, ◌≡◌, length, get_or, eqb, not};
 ghost use Rattle.machine.specs.Sizes.{most_calls};
-ghost use Rattle.bench_file.specs.Bytes.{low_first};
 ghost use Rattle.step.specs.Entry.{one_if};
 ghost use Rattle.history.specs.Terms.{record_length, no_entry};
 ghost use Rattle.kept.specs.Kept.{call_at};
+ghost use Rattle.bench.specs.Answer.{as_run};
 ghost use Rattle.bench.specs.Promise.{Runs};
 ghost use Rattle.bench.specs.Records.{kept_record, records_in};
 ghost use Rattle.bench.specs.Run.{written};
 
 use kept::Kept;
+use refusal::Refusal;
+use runner::Played;
 use state::Counts;
-
-// Refusal 0 with the five counts, or a refusal's number with all counts 0.
-#[derive(Clone, Copy)]
-pub struct RunAnswer {
-    pub refusal: u8,
-    pub counts: Counts,
-}
 
 // So many bytes hold the records of every file.
 pub const ENOUGH_FOR_RECORDS: usize = kept::RECORD_LENGTH * machine::CALLS;
-
-// A number as four bytes, the lowest first.
-fn low_first(number: u32) -> [u8; 4]
-    ensures { result ≡ low_first 4 number }
-{
-    [
-        (number % 256) as u8,
-        (number / 256 % 256) as u8,
-        (number / 256 / 256 % 256) as u8,
-        (number / 256 / 256 / 256 % 256) as u8,
-    ]
-}
 
 // Byte 12 of a record: whether the call has an entry for its return.
 fn state_byte(returned: u32) -> u8
@@ -48,71 +31,40 @@ fn record_bytes(place: u16, kept: Kept) -> [u8; kept::RECORD_LENGTH]
     requires { place < most_calls }
     ensures { result ≡ kept_record (call_at place) kept }
 {
-    let value = low_first(kept.value);
-    let remote = low_first(kept.remote);
-    let state = state_byte(kept.returned);
-    let turn = low_first(kept.turn as u32);
-    let began = low_first(kept.began);
-    let returned = low_first(kept.returned);
-    [
-        (place / 16) as u8,
-        (place % 16) as u8,
-        kept.mark,
-        kept.server,
-        value[0],
-        value[1],
-        value[2],
-        value[3],
-        remote[0],
-        remote[1],
-        remote[2],
-        remote[3],
-        state,
-        turn[0],
-        turn[1],
-        0,
-        began[0],
-        began[1],
-        began[2],
-        began[3],
-        returned[0],
-        returned[1],
-        returned[2],
-        returned[3],
-    ]
+    let mut record = [0u8; kept::RECORD_LENGTH];
+    record[0] = (place / 16) as u8;
+    record[1] = (place % 16) as u8;
+    record[2] = kept.mark;
+    record[3] = kept.server;
+    record[4..8].copy_from_slice(&kept.value.to_le_bytes());
+    record[8..12].copy_from_slice(&kept.remote.to_le_bytes());
+    record[12] = state_byte(kept.returned);
+    record[13..15].copy_from_slice(&kept.turn.to_le_bytes());
+    record[16..20].copy_from_slice(&kept.began.to_le_bytes());
+    record[20..24].copy_from_slice(&kept.returned.to_le_bytes());
+    record
 }
 
-// So many records, in Swap order, from the buffer's first byte on.
-fn put_records(
-    out: &mut [u8],
-    count: usize,
-    kept: [Kept; machine::CALLS],
-    order: [u16; machine::CALLS],
-)
-    requires count_le_most_calls { (count ≤ most_calls) × (record_length * count ≤ length out.old) }
-    requires by_index { (i : ℕ) → i < count → get_or order i 0 < most_calls }
-    ensures { out.new ≡ written out.old (records_in count kept order) }
+// The records of a run, in Swap order, from the buffer's first byte on.
+fn put_records(out: &mut [u8], played: &Played)
+    requires count_le_most_calls { (played.now.counts.records ≤ most_calls) × (record_length * played.now.counts.records ≤ length out.old) }
+    requires by_index { (i : ℕ) → i < played.now.counts.records → get_or played.now.order i 0 < most_calls }
+    ensures { out.new ≡ written out.old (records_in played.now.counts.records played.now.kept played.now.order) }
 {
-    let mut i = 0usize;
-    while i < count {
-        let place = order[i];
-        let record = record_bytes(place, kept[place as usize]);
+    for i in 0..played.counts.records as usize {
+        let place = played.order[i];
+        let record = record_bytes(place, played.kept[place as usize]);
         let at = kept::RECORD_LENGTH * i;
         out[at..at + kept::RECORD_LENGTH].copy_from_slice(&record);
-        i += 1;
     }
 }
 
 // Runs any bytes as a bench file; 13 where fewer bytes are lent than a record for each request in the file takes, and then 14 where an entry would follow null or
 // put it into tmpNode. The records stand in Swap order from the buffer's first byte on; a refusal has none.
-pub fn run(file: &[u8], out: &mut [u8]) -> RunAnswer
-    ensures { Runs file.now out.old out.new result }
+pub fn run(file: &[u8], out: &mut [u8]) -> Result<Counts, Refusal>
+    ensures { Runs file.now out.old out.new (as_run result) }
 {
-    let played = runner::play(file, out.len());
-    let refusal = played.refusal;
-    let counts = played.counts;
-    let kept = played.kept;
-    let order = played.order;
-    put_records(out, counts.records as usize, kept, order);
-    RunAnswer { refusal, counts }
+    let played = runner::play(file, out.len())?;
+    put_records(out, &played);
+    Ok(played.counts)
 }

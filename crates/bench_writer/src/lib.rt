@@ -280,7 +280,7 @@ fn convert_head(file: &[u8], head: Head, wanted: u16, out: &mut [u8]) -> Written
 {
     let object = head.object;
     let method = head.method;
-    let by = machine::method_number(method);
+    let by = u8::from(method);
     if most_method(wanted) < by {
         return Written {
             refusal: 16,
@@ -296,7 +296,7 @@ fn convert_head(file: &[u8], head: Head, wanted: u16, out: &mut [u8]) -> Written
             length: 0,
         };
     }
-    let kind = object::kind_number(object);
+    let kind = u8::from(object);
     put_head(out, wanted, kind, head.n, head.h, head.capacity, by);
     put(out, at, &file[from..]);
     Written {

@@ -1,8 +1,8 @@
 // The 21 printed lines of CC-Synch, Algorithm 1 of source 004: the table of their accesses and the line that follows each.
 #![tactic(auto)]
 
-ghost use Rattle.std.specs.Prelude.{◌+◌, ◌<◌, ◌≡◌};
-ghost use Rattle.cc_lines.specs.Lines.{line_of, printed_line, row_of, following};
+ghost use Rattle.std.specs.Prelude.{◌≡◌};
+ghost use Rattle.cc_lines.specs.Lines.{line_of, row_of, following};
 
 use machine::Event::*;
 use machine::Field::*;
@@ -69,24 +69,9 @@ pub fn following(line: u8, node: Node, served: u8, h: u8) -> u8
     }
 }
 
-// The printed line at a place of the table.
-fn printed_line(place: usize) -> PrintedLine
-    requires { place < 21 }
-    ensures { result ≡ printed_line (line_of (place + 1)) }
-{
-    LINES[place]
-}
-
 // The row of a line, or of a blank.
 pub fn row_of(line: u8) -> Row
     ensures { result ≡ row_of (line_of line) }
 {
-    if line == 0 {
-        return machine::row_from(Local(Own, Blank));
-    }
-    if line > 21 {
-        return machine::row_from(Local(Own, Blank));
-    }
-    let place = (line - 1) as usize;
-    machine::row_from(printed_line(place))
+    machine::row_in(&LINES, Own, line)
 }

@@ -6,7 +6,7 @@ use Rattle.object.specs.declared.Answer.{Answer}
 use Rattle.machine.specs.declared.NodeId.{NodeId}
 use Rattle.machine.specs.declared.Node.{Node}
 use Rattle.machine.specs.declared.Thread.{Thread}
-use Rattle.machine.specs.declared.Effect.{Effect}
+use Rattle.machine.specs.Effect.{Effect}
 use Rattle.cc_lines.specs.Lines.{Line, line_of, number}
 use Rattle.cc_lines.proofs.Numbers.{number_of, agree}
 use Rattle.machine.specs.Lines.{line_run}
@@ -82,3 +82,7 @@ module _ (th : Thread) (x : Node) (tail : NodeId) (h : ℕ) (request : Request) 
   -- one that is refused would take a number out or use an empty req or ret
   pub refused_out : ((effect_of th x tail h request answer).refusal ≡ 0 → ⊥) → takes_out th x h line ≡ true
   refused_out = refused_by (takes_out th x h line)
+
+  -- and it is 14
+  pub refused_14 : ((effect_of th x tail h request answer).refusal ≡ 0 → ⊥) → (effect_of th x tail h request answer).refusal ≡ 14
+  refused_14 e = ap (λ (out : Bool). (does out).refusal) (refused_out e)

@@ -7,7 +7,7 @@ use Rattle.object.specs.declared.Answer.{Answer}
 use Rattle.machine.specs.declared.NodeId.{NodeId}
 use Rattle.machine.specs.declared.Node.{Node}
 use Rattle.machine.specs.declared.Thread.{Thread}
-use Rattle.machine.specs.declared.Effect.{Effect}
+use Rattle.machine.specs.Effect.{Effect}
 use Rattle.machine.specs.declared.Field.TheVariants.{Req, Ret}
 use Rattle.machine.specs.declared.Event.{Event}
 use Rattle.machine.specs.declared.Event.TheVariants.{Spins, Other}

@@ -3,10 +3,12 @@
 
 ghost use Rattle.std.specs.Prelude.{◌≡◌};
 ghost use Rattle.cc_lines.specs.Lines.{line_of};
-ghost use Rattle.cc_synch.specs.Effect.{uses_empty, takes_out, wrapped, line_does, executed, effect_of};
+ghost use Rattle.machine.specs.Effect.{done, as_effect};
+ghost use Rattle.cc_synch.specs.Effect.{takes_out, wrapped, line_does, executed, effect_of};
 
-use machine::{Effect, Node, NodeId, Thread};
+use machine::{After, Node, NodeId, Thread};
 use object::{Answer, Request};
+use refusal::Refusal;
 
 // Algorithm 1, one printed line, by its statement: what it makes of its thread, `th`, of the node that it points to, `x`, and of Tail, `to`. The thread goes on
 // to the line `on`. `own` is node_i, and nextNode until line 8.
@@ -18,14 +20,10 @@ fn line_does(
     tail: NodeId,
     request: Request,
     answer: Answer,
-) -> Effect
-    ensures { result ≡ wrapped (line_does thread node tail request answer on (line_of line)) }
+) -> After
+    ensures { done result ≡ wrapped (line_does thread node tail request answer on (line_of line)) }
 {
     let null = NodeId(machine::NULL);
-    let own = thread.own;
-    let cur = thread.cur;
-    let tmpnext = thread.tmpnext;
-    let next = node.next;
     let mut th = thread;
     let mut x = node;
     let mut to = tail;
@@ -33,7 +31,7 @@ fn line_does(
     match line {
         0 => th.line = thread.line, // a blank
         1 => {
-            th.begun = std::num::wrapping_add_u8(thread.begun, 1);
+            th.begun = thread.begun.wrapping_add(1);
             th.cur = null;
             th.tmp = null;
             th.tmpnext = null;
@@ -44,28 +42,27 @@ fn line_does(
         4 => x.completed = false,
         5 => {
             th.cur = tail;
-            to = own;
+            to = thread.own;
         }
-        6 => x = machine::with_req(node, request),
-        7 => x.next = own,
-        8 => th.own = cur,
+        6 => x.req = Some(request),
+        7 => x.next = thread.own,
+        8 => th.own = thread.cur,
         9 => {} // tests wait
         10 => {} // tests completed
         11 => {} // returns ret
-        12 => th.tmp = cur,
+        12 => th.tmp = thread.cur,
         13 => {} // tests next and the counter
-        14 => th.served = std::num::wrapping_add_u8(thread.served, 1),
-        15 => th.tmpnext = next,
-        16 => x = machine::with_ret(node, answer),
+        14 => th.served = thread.served.wrapping_add(1),
+        15 => th.tmpnext = node.next,
+        16 => x.ret = Some(answer),
         17 => x.completed = true,
         18 => x.wait = false,
-        19 => th.tmp = tmpnext,
+        19 => th.tmp = thread.tmpnext,
         20 => x.wait = false,
         21 => {} // returns ret
         _ => th.line = thread.line, // no line
     }
-    Effect {
-        refusal: 0,
+    After {
         thread: th,
         node: x,
         tail: to,
@@ -81,36 +78,25 @@ pub fn executed(
     h: u8,
     request: Request,
     answer: Answer,
-) -> Effect
-    ensures { result ≡ wrapped (executed thread node tail h request answer (line_of line)) }
+) -> After
+    ensures { done result ≡ wrapped (executed thread node tail h request answer (line_of line)) }
 {
     let on = cc_lines::following(line, node, thread.served, h);
     line_does(line, on, thread, node, tail, request, answer)
-}
-
-// Line 16 uses the req of its node, lines 11 and 21 the ret.
-fn uses_empty(node: Node, line: u8) -> bool
-    ensures { result ≡ uses_empty node line }
-{
-    let req = node.req;
-    let ret = node.ret;
-    let no_req = machine::is_empty_req(req);
-    let no_ret = machine::is_empty_ret(ret);
-    (line == 16) & no_req | ((line == 11) | (line == 21)) & no_ret
 }
 
 // Why a line is 14: it would take a number of its thread out, uses an empty req or ret, or is past 21.
 fn takes_out(line: u8, thread: Thread, node: Node, h: u8) -> bool
     ensures { result ≡ takes_out thread node h line }
 {
-    let tmpnext = thread.tmpnext;
-    let no_next = machine::is_null(tmpnext);
-    let empty = uses_empty(node, line);
-    (line > 21)
-        | (line == 1) & (thread.count <= thread.begun)
-        | (line == 14) & (h <= thread.served)
-        | (line == 19) & no_next
-        | empty
+    match line {
+        1 => thread.count <= thread.begun,
+        11 | 21 => node.ret.is_none(),
+        14 => h <= thread.served,
+        16 => node.req.is_none(),
+        19 => machine::is_null(thread.tmpnext),
+        _ => line > 21,
+    }
 }
 
 // What the next line of a thread does to it, to the node that it points to and to Tail; 14 if it would take a number of the thread out, uses an
@@ -122,17 +108,12 @@ pub fn run_line(
     h: u8,
     request: Request,
     answer: Answer,
-) -> Effect
-    ensures { result ≡ effect_of thread node tail h request answer }
+) -> Result<After, Refusal>
+    ensures { as_effect thread node tail result ≡ effect_of thread node tail h request answer }
 {
     let line = machine::line_run(thread);
     if takes_out(line, thread, node, h) {
-        return Effect {
-            refusal: 14,
-            thread,
-            node,
-            tail,
-        };
+        return Err(Refusal::OutOfRange);
     }
-    executed(line, thread, node, tail, h, request, answer)
+    Ok(executed(line, thread, node, tail, h, request, answer))
 }

@@ -36,9 +36,9 @@ fn judged_numbers(judged: Judged) -> [usize; 8]
             entries,
         } => {
             let object = head.object;
-            let number = object::kind_number(object);
+            let number = u8::from(object);
             let method = head.method;
-            let by = machine::method_number(method);
+            let by = u8::from(method);
             [
                 head.version as usize,
                 number as usize,
@@ -70,16 +70,22 @@ pub extern "C" fn ccs_judge(file: &[u8], numbers: &mut [usize; 8]) -> u8
 pub extern "C" fn ccs_run(file: &[u8], out: &mut [u8], numbers: &mut [u32; 5]) -> u8
     ensures { Runs file.now out.old out.new (answer_in result numbers.new) }
 {
-    let answer = bench::run(file, out);
-    let counts = answer.counts;
-    *numbers = [
-        counts.records,
-        counts.turns,
-        counts.blanks,
-        counts.spins,
-        counts.remote,
-    ];
-    answer.refusal
+    match bench::run(file, out) {
+        Ok(counts) => {
+            *numbers = [
+                counts.records,
+                counts.turns,
+                counts.blanks,
+                counts.spins,
+                counts.remote,
+            ];
+            0
+        }
+        Err(refusal) => {
+            *numbers = [0u32; 5];
+            refusal.number()
+        }
+    }
 }
 
 // Writes the bench file of given fields, in version 1 or 2, into a lent buffer, and its length; the length of a refusal is 0, of 15 for a method that there is not

@@ -7,10 +7,10 @@ use mathlib.Core.List.{List}
 use lib.Dec.{leb, eqb}
 use lib.ListN.{get_or}
 use borrow.Author.Tests.{lt-leb}
-use Rattle.object.specs.declared.Answer.TheVariants as Answer
+use Rattle.std.specs.Prelude.{Option, Some, None}
+use Rattle.object.specs.declared.Answer.{Answer}
 use Rattle.bench_file.specs.Layout.{Fields}
 use Rattle.bench_file.specs.Bytes.{low_first}
-use Rattle.machine.specs.declared.RetVal.{RetVal}
 use Rattle.step.specs.Entry.{one_if}
 use Rattle.history.specs.Entries.{Entry}
 use Rattle.history.specs.Terms.{Call, ret_mark, ret_value, record_of, number_at}
@@ -22,12 +22,12 @@ use Rattle.cells.specs.Cells.{ret_of, value_cell, byte_at, row_in, record_cells}
 use Rattle.cells.specs.Shown.{shown_row}
 
 -- mark and value stand for the response that they were written for
-ret_back : (ret : RetVal) → ret_of (ret_mark ret) (ret_value ret) ≡ ret
-ret_back RetVal.NoAnswer = refl
-ret_back (RetVal.Answered (Answer.Done count)) = refl
-ret_back (RetVal.Answered (Answer.Value v)) = refl
-ret_back (RetVal.Answered Answer.Empty) = refl
-ret_back (RetVal.Answered Answer.Full) = refl
+ret_back : (ret : Option Answer) → ret_of (ret_mark ret) (ret_value ret) ≡ ret
+ret_back None = refl
+ret_back (Some (Answer.Done count)) = refl
+ret_back (Some (Answer.Value v)) = refl
+ret_back (Some Answer.Empty) = refl
+ret_back (Some Answer.Full) = refl
 
 -- a number stands in the value's place exactly where the mark is that of done or of a value
 value_by_mark : (mark value : ℕ) → value_cell (ret_of mark value) ≡ cond (leb mark 1) (Number value) (Says Hyphen)

@@ -4,8 +4,8 @@ use native.Mathlib.Omega.{arith}
 use mathlib.Core.Path.{◌≡◌, refl, ap}
 use mathlib.Core.List.{List, ◌∷◌}
 use lib.ListN.{length, take, drop, length-append}
-use Rattle.object.specs.declared.Answer.TheVariants as Answer
-use Rattle.machine.specs.declared.RetVal.{RetVal}
+use Rattle.std.specs.Prelude.{Option, Some, None}
+use Rattle.object.specs.declared.Answer.{Answer}
 use Rattle.cells.specs.declared.Word.{Word}
 use Rattle.cells.specs.declared.Word.TheVariants.{Queue, Stack, Counter, Done, Value, Empty, Full, NoAnswer, Hyphen, Returned, Open, Cc, Dsm}
 use Rattle.cells.specs.declared.Cell.{Cell}
@@ -41,12 +41,12 @@ in_table Cc = record { number = omega arith; long = omega arith; there = refl }
 in_table Dsm = record { number = omega arith; long = omega arith; there = refl }
 
 -- a mark word has at most five bytes
-pub mark_length : (ret : RetVal) → length (word_text (mark_word ret)) ≤ 5
-mark_length RetVal.NoAnswer = omega arith
-mark_length (RetVal.Answered (Answer.Done count)) = omega arith
-mark_length (RetVal.Answered (Answer.Value v)) = omega arith
-mark_length (RetVal.Answered Answer.Empty) = omega arith
-mark_length (RetVal.Answered Answer.Full) = omega arith
+pub mark_length : (ret : Option Answer) → length (word_text (mark_word ret)) ≤ 5
+mark_length None = omega arith
+mark_length (Some (Answer.Done count)) = omega arith
+mark_length (Some (Answer.Value v)) = omega arith
+mark_length (Some Answer.Empty) = omega arith
+mark_length (Some Answer.Full) = omega arith
 
 -- a cell has at most ten bytes
 pub cell_length : (cell : Cell) → length (cell_text cell) ≤ 10

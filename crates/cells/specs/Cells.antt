@@ -1,7 +1,6 @@
 -- The cells of a record: which number or word stands in each place. Document 01, 'The record of a call', and requests No. 1 and No. 3.
-use Rattle.std.specs.Prelude.{ℕ, Bool, cond, List, [], ◌∷◌, ◌++◌, get_or, eqb}
+use Rattle.std.specs.Prelude.{ℕ, Bool, cond, List, [], ◌∷◌, ◌++◌, get_or, eqb, Option, Some, None}
 use Rattle.object.specs.declared.Answer.{Answer}
-use Rattle.machine.specs.declared.RetVal.{RetVal}
 use Rattle.history.specs.Terms.{no_thread, no_turn, no_entry, number_at}
 use Rattle.cells.specs.declared.Word.{Word}
 use Rattle.cells.specs.declared.Word.TheVariants.{Queue, Stack, Counter, Done, Value, Empty, Full, NoAnswer, Hyphen, Returned, Open, Cc, Dsm}
@@ -47,9 +46,9 @@ cell_text (Number n) = decimal n
 cell_text (Says word) = word_text word
 
 -- the response that a mark and a value stand for; 255, like every number that is no answer's mark, stands for none
-abbrev pub ret_of : ℕ → ℕ → RetVal
+abbrev pub ret_of : ℕ → ℕ → Option Answer
 ret_of mark value =
-    get_or (RetVal.Answered (Answer.Done value) ∷ RetVal.Answered (Answer.Value value) ∷ RetVal.Answered Answer.Empty ∷ RetVal.Answered Answer.Full ∷ []) mark RetVal.NoAnswer
+    get_or (Some (Answer.Done value) ∷ Some (Answer.Value value) ∷ Some Answer.Empty ∷ Some Answer.Full ∷ []) mark None
 
 -- mark word: done, value, empty, full, or none before serving
 abbrev pub answer_word : Answer → Word
@@ -58,9 +57,9 @@ answer_word (Answer.Value v) = Value
 answer_word Answer.Empty = Empty
 answer_word Answer.Full = Full
 
-abbrev pub mark_word : RetVal → Word
-mark_word RetVal.NoAnswer = NoAnswer
-mark_word (RetVal.Answered answer) = answer_word answer
+abbrev pub mark_word : Option Answer → Word
+mark_word None = NoAnswer
+mark_word (Some answer) = answer_word answer
 
 -- a done put prints its count and a value itself; any other response prints a hyphen
 abbrev pub answer_cell : Answer → Cell
@@ -69,9 +68,9 @@ answer_cell (Answer.Value v) = Number v
 answer_cell Answer.Empty = Says Hyphen
 answer_cell Answer.Full = Says Hyphen
 
-abbrev pub value_cell : RetVal → Cell
-value_cell RetVal.NoAnswer = Says Hyphen
-value_cell (RetVal.Answered answer) = answer_cell answer
+abbrev pub value_cell : Option Answer → Cell
+value_cell None = Says Hyphen
+value_cell (Some answer) = answer_cell answer
 
 -- a number, or a hyphen where it is that of none: server and turn before serving, the return while the call is open
 abbrev pub or_hyphen : ℕ → ℕ → Cell
@@ -87,7 +86,7 @@ pub record Row : Type 0 where
   pub order : ℕ
   pub thread : ℕ
   pub request : ℕ
-  pub ret : RetVal
+  pub ret : Option Answer
   pub server : ℕ
   pub turn : ℕ
   pub remote : ℕ

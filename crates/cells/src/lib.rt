@@ -9,7 +9,6 @@ ghost use Rattle.cells.specs.Cells.{word_number, word_text, cell_text, ret_of, a
 ghost use Rattle.cells.specs.Rows.{gap, in_column, row_text};
 ghost use Rattle.cells.specs.Promise.{Gives, refusal_line};
 
-use machine::RetVal;
 use object::Answer;
 
 // Text given in a lent buffer: refusal 0 and its length, or a refusal with the buffer as it was.
@@ -144,15 +143,15 @@ pub fn put_cell(out: &mut [u8], at: usize, cell: Cell) -> usize
 }
 
 // The response that a record's mark and value stand for.
-fn ret_of(mark: u8, value: u32) -> RetVal
+fn ret_of(mark: u8, value: u32) -> Option<Answer>
     ensures { result ≡ ret_of mark value }
 {
     match mark {
-        0 => RetVal::Answered(Answer::Done(value)),
-        1 => RetVal::Answered(Answer::Value(value)),
-        2 => RetVal::Answered(Answer::Empty),
-        3 => RetVal::Answered(Answer::Full),
-        _ => RetVal::NoAnswer,
+        0 => Some(Answer::Done(value)),
+        1 => Some(Answer::Value(value)),
+        2 => Some(Answer::Empty),
+        3 => Some(Answer::Full),
+        _ => None,
     }
 }
 
@@ -167,20 +166,20 @@ fn answer_word(answer: Answer) -> Word
     }
 }
 
-fn mark_word(ret: RetVal) -> Word
+fn mark_word(ret: Option<Answer>) -> Word
     ensures { result ≡ mark_word ret }
 {
     match ret {
-        RetVal::NoAnswer => Word::NoAnswer,
-        RetVal::Answered(answer) => answer_word(answer),
+        None => Word::NoAnswer,
+        Some(answer) => answer_word(answer),
     }
 }
 
 // The count of a done put or the value of a response, a hyphen where it is neither.
-fn value_cell(ret: RetVal) -> Cell
+fn value_cell(ret: Option<Answer>) -> Cell
     ensures { result ≡ value_cell ret }
 {
-    let RetVal::Answered(answer) = ret else {
+    let Some(answer) = ret else {
         return Cell::Says(Word::Hyphen);
     };
     if let Answer::Done(count) = answer {

@@ -4,14 +4,13 @@ use native.Mathlib.Omega.{arith}
 use mathlib.Core.Path.{◌≡◌}
 use mathlib.Core.Bool.{Bool, true, false}
 use mathlib.Core.List.{List}
+use Rattle.std.specs.Prelude.{Option, Some, None}
 use Rattle.object.specs.declared.Answer.{Answer}
 use Rattle.object.specs.declared.Answer.TheVariants.{Done, Value, Empty, Full}
 use Rattle.object.specs.Paper.{answer_mark}
 use Rattle.bench_file.specs.Reading.{little_endian}
 use Rattle.bench_file.specs.Bytes.{low_first, Byte}
 use Rattle.bench_file.proofs.Each.{low_value}
-use Rattle.machine.specs.declared.RetVal.{RetVal}
-use Rattle.machine.specs.declared.RetVal.TheVariants.{NoAnswer, Answered}
 use Rattle.step.specs.Entry.{one_if}
 use Rattle.history.specs.Entries.{Entry}
 use Rattle.claims.specs.Claims.{RecordSized}
@@ -24,9 +23,9 @@ mark_below (Value v) = omega arith
 mark_below Empty = omega arith
 mark_below Full = omega arith
 
-ret_byte : (r : RetVal) → Byte (ret_mark r)
-ret_byte NoAnswer = omega arith
-ret_byte (Answered a) = omega (arith, mark_below a)
+ret_byte : (r : Option Answer) → Byte (ret_mark r)
+ret_byte None = omega arith
+ret_byte (Some a) = omega (arith, mark_below a)
 
 test_byte : (b : Bool) → Byte (one_if b)
 test_byte true = omega arith

@@ -7,6 +7,7 @@ use mathlib.Core.Bool.{Bool, true, false, cond, and-false}
 use mathlib.Core.List.{List, [], ◌∷◌, ◌++◌, map, map-append, append-nil}
 use lib.ListN.{length, get_or, length-map}
 use borrow.Author.Tests.{eqb-true, le-ltb}
+use Rattle.std.specs.Prelude.{Option, Some, None}
 use Rattle.object.specs.declared.Request.{Request}
 use Rattle.object.specs.declared.Request.TheVariants.{Put}
 use Rattle.object.specs.declared.Answer.{Answer}
@@ -15,10 +16,6 @@ use Rattle.object.specs.Each.{Each}
 use Rattle.object.proofs.Choice.{by_equal, either}
 use Rattle.object.proofs.Each.{each_append}
 use Rattle.bench_file.specs.Layout.{Fields}
-use Rattle.machine.specs.declared.Announced.{Announced}
-use Rattle.machine.specs.declared.Announced.TheVariants.{Asked}
-use Rattle.machine.specs.declared.RetVal.{RetVal}
-use Rattle.machine.specs.declared.RetVal.TheVariants.{NoAnswer, Answered}
 use Rattle.machine.specs.declared.Event.TheVariants.{Blank, CallBegins, Swaps, TurnBegins, Applies, Returns}
 use Rattle.machine.specs.Events.{event_number}
 use Rattle.invariant.specs.Serving.{grown}
@@ -56,8 +53,8 @@ module _ (Paid : Bool → ℕ → ℕ → Type 0) where
     -- a thread has begun no more calls than its row of the file has requests
     pub begun : (u : ℕ) → u < f.head.n → x.begun u ≤ length (asked_of f (thread_id u))
     -- a serving has an answer; what is applied is the request of the call served, and by a combiner
-    pub answered : map (λ (w : Serving). w.answer) (servings past) ≡ map Answered answers
-    pub asked : map (λ (w : Serving). w.req) (servings past) ≡ map (λ (w : Serving). Asked (asked_by f w.call)) (servings past)
+    pub answered : map (λ (w : Serving). w.answer) (servings past) ≡ map Some answers
+    pub asked : map (λ (w : Serving). w.req) (servings past) ≡ map (λ (w : Serving). Some (asked_by f w.call)) (servings past)
     pub by_combiner : happened outside_turn past ≡ false
     -- who serves is one of the threads
     pub servers : Each (λ (w : Serving). w.server.0 < f.head.n) (servings past)
@@ -68,10 +65,10 @@ module _ (Paid : Bool → ℕ → ℕ → Type 0) where
   -- what a method shows of thread t's entry, beyond how it moves
   pub record Shows (f : Fields) (x : Seen) (p : Positions) (cost cost' : ℕ → ℕ) (answers : List Answer) (past : List Entry) (t : ℕ) (e : Entry) (answer : Answer) : Type 0 where
     -- an entry that applies takes the request at the next position, and gives an answer to it
-    pub takes : Is Applies e → e.req ≡ Asked (get_or (jobs_of f past) p.a (Put 0))
-    pub gives : Is Applies e → e.answer ≡ Answered answer
+    pub takes : Is Applies e → e.req ≡ Some (get_or (jobs_of f past) p.a (Put 0))
+    pub gives : Is Applies e → e.answer ≡ Some answer
     -- one that returns has the answer at its thread's position, and what its call has cost is as the method claims
-    pub returns : Is Returns e → e.ret ≡ Answered (get_or answers (p.at t) Empty)
+    pub returns : Is Returns e → e.ret ≡ Some (get_or answers (p.at t) Empty)
     pub by_another : Is Returns e → x.phase t ≡ waiting → Paid false 0 (cost t + remote_in e.remote)
     pub by_itself : Is Returns e → x.phase t ≡ leaving → Paid true (x.counter t) (cost t + remote_in e.remote)
     -- a blank comes with no request left, a call begins with one
@@ -155,24 +152,24 @@ module _ {Paid : Bool → ℕ → ℕ → Type 0} {f : Fields} {x x' : Seen} {p 
       (by_event e CallBegins (λ q. omega (arith, (goes moved).begins q, shows.some_left q)) (λ q. omega (arith, (goes moved).same q, now.begun t moved.below))))
       (λ other. rw (moved.others u other).begun (now.begun u b))
 
-  answered_next : map (λ (w : Serving). w.answer) (servings (e ∷ past)) ≡ map Answered (grown (is Applies e) answers answer)
+  answered_next : map (λ (w : Serving). w.answer) (servings (e ∷ past)) ≡ map Some (grown (is Applies e) answers answer)
   answered_next =
-      added_to (λ (w : Serving). w.answer) (servings past) (serving_of e past) (Answered answer) (is Applies e) (λ z. shows.gives (eqb-true _ 4 z))
-      ∙ ap (λ (l : List RetVal). grown (is Applies e) l (Answered answer)) now.answered
-      ∙ sym (map_grown Answered (is Applies e) answers answer)
+      added_to (λ (w : Serving). w.answer) (servings past) (serving_of e past) (Some answer) (is Applies e) (λ z. shows.gives (eqb-true _ 4 z))
+      ∙ ap (λ (l : List (Option Answer)). grown (is Applies e) l (Some answer)) now.answered
+      ∙ sym (map_grown Some (is Applies e) answers answer)
 
   -- what is applied is the request of the call that is served
-  req_served : Is Applies e → e.req ≡ Asked (asked_by f (call_assigned e.node past))
+  req_served : Is Applies e → e.req ≡ Some (asked_by f (call_assigned e.node past))
   req_served q =
-      shows.takes q ∙ ap Asked (job_at f now.swaps p.a (moved.serving q).1 ∙ ap (asked_by f) (sym (serves_next moved now.swaps q no_call)))
+      shows.takes q ∙ ap Some (job_at f now.swaps p.a (moved.serving q).1 ∙ ap (asked_by f) (sym (serves_next moved now.swaps q no_call)))
 
-  asked_next : map (λ (w : Serving). w.req) (servings (e ∷ past)) ≡ map (λ (w : Serving). Asked (asked_by f w.call)) (servings (e ∷ past))
+  asked_next : map (λ (w : Serving). w.req) (servings (e ∷ past)) ≡ map (λ (w : Serving). Some (asked_by f w.call)) (servings (e ∷ past))
   asked_next =
       let w = serving_of e past in
-      let asked = Asked (asked_by f w.call) in
+      let asked = Some (asked_by f w.call) in
       added_to (λ (w : Serving). w.req) (servings past) w asked (is Applies e) (λ z. req_served (eqb-true _ 4 z))
-      ∙ ap (λ (l : List Announced). grown (is Applies e) l asked) now.asked
-      ∙ sym (added_to (λ (w : Serving). Asked (asked_by f w.call)) (servings past) w asked (is Applies e) (λ z. refl))
+      ∙ ap (λ (l : List (Option Request)). grown (is Applies e) l asked) now.asked
+      ∙ sym (added_to (λ (w : Serving). Some (asked_by f w.call)) (servings past) w asked (is Applies e) (λ z. refl))
 
   by_combiner_next : happened outside_turn (e ∷ past) ≡ false
   by_combiner_next =
@@ -195,12 +192,12 @@ module _ {Paid : Bool → ℕ → ℕ → Type 0} {f : Fields} {x x' : Seen} {p 
   returns_answer : Is Returns e → (w : Serving) → e.ret ≡ (get_or (servings past) (p.at t) w).answer
   returns_answer q w =
       let there = moved.last q in
-      let given : length answers ≡ length (servings past) = sym (length-map answers Answered) ∙ ap length (sym now.answered) ∙ length-map (servings past) _ in
+      let given : length answers ≡ length (servings past) = sym (length-map answers Some) ∙ ap length (sym now.answered) ∙ length-map (servings past) _ in
       let served = all_served now.swaps now.order in
       shows.returns q
-      ∙ sym (map_at Answered answers (p.at t) Empty NoAnswer (omega arith))
-      ∙ ap (λ (l : List RetVal). get_or l (p.at t) NoAnswer) (sym now.answered)
-      ∙ map_at (λ (w : Serving). w.answer) (servings past) (p.at t) w NoAnswer (omega arith)
+      ∙ sym (map_at Some answers (p.at t) Empty None (omega arith))
+      ∙ ap (λ (l : List (Option Answer)). get_or l (p.at t) None) (sym now.answered)
+      ∙ map_at (λ (w : Serving). w.answer) (servings past) (p.at t) w None (omega arith)
 
   -- an entry is of a call that has not returned
   open_yet : (Is Blank e → ⊥) → returned (call_of e past) past ≡ false

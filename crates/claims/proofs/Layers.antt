@@ -7,17 +7,17 @@ use mathlib.Core.List.{List, ◌∷◌}
 use lib.ListN.{length, get_or}
 use lib.Dec.{eqb}
 use borrow.Author.Tests.{ne_eqb}
+use Rattle.std.specs.Prelude.{Some}
 use Rattle.object.specs.declared.Request.{Request}
 use Rattle.object.specs.declared.Request.TheVariants.{Put}
 use Rattle.object.specs.declared.Answer.{Answer}
 use Rattle.object.specs.declared.Object.{Object}
-use Rattle.object.specs.declared.Applied.{Applied}
+use Rattle.object.specs.Apply.{Applied}
 use Rattle.object.proofs.Choice.{by_equal}
 use Rattle.bench_file.specs.Layout.{Fields}
 use Rattle.bench_file.specs.Bytes.{InRange}
 use Rattle.machine.specs.declared.Method.TheVariants.{CcSynch}
 use Rattle.machine.specs.declared.ThreadId.{ThreadId}
-use Rattle.machine.specs.declared.Announced.TheVariants.{Asked}
 use Rattle.machine.specs.declared.Event.TheVariants.{Blank, CallBegins, Swaps, Applies, Returns}
 use Rattle.machine.specs.Events.{same_event}
 use Rattle.machine.specs.Sizes.{most_locations}
@@ -167,7 +167,7 @@ module _ (f : Fields) (fits : InRange f) (s : State) (past : List Entry) (t : Th
       (subst (λ (l : List Request). DataAfter l (grown (same_event (row s t).event Applies) now.answers by_line_applied.answer) by_line_applied.object) jobs kept))
 
   -- what is applied is the request at the next position
-  asks_next : Is Applies e → (node s t).req ≡ Asked (get_or (jobs_of f past) now.ledger.a (Put 0))
+  asks_next : Is Applies e → (node s t).req ≡ Some (get_or (jobs_of f past) now.ledger.a (Put 0))
   asks_next q = served_asks now.control now.object does ((numbers l (node s t)).serve q)
 
   copied : length s.copies ≡ most_locations

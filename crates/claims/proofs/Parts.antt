@@ -8,6 +8,7 @@ use lib.ListN.{length, get_or, take, drop, length-map}
 use lib.Seq.{get_or-take}
 use lib.Dec.{ltb}
 use borrow.Author.Tests.{lt-ltb, le-ltb}
+use Rattle.std.specs.Prelude.{Option, Some, None}
 use Rattle.object.specs.declared.Request.{Request}
 use Rattle.object.specs.declared.Request.TheVariants.{Put}
 use Rattle.object.specs.declared.Answer.{Answer}
@@ -23,9 +24,6 @@ use Rattle.bench_file.specs.Layout.{Fields}
 use Rattle.bench_file.specs.Bytes.{low_first, Byte, InRange}
 use Rattle.bench_file.proofs.RoundTrip.{capacity_byte, request_fits}
 use Rattle.machine.specs.declared.Method.{Method}
-use Rattle.machine.specs.declared.Announced.TheVariants.{NoRequest, Asked}
-use Rattle.machine.specs.declared.RetVal.{RetVal}
-use Rattle.machine.specs.declared.RetVal.TheVariants.{NoAnswer, Answered}
 use Rattle.machine.specs.declared.Event.{Event}
 use Rattle.machine.specs.declared.Event.TheVariants.{CallBegins, Swaps, TurnBegins, Applies, Returns}
 use Rattle.state.specs.declared.State.{State}
@@ -80,7 +78,7 @@ module _ (Paid : Bool → ℕ → ℕ → Type 0) (m : Method) (f : Fields) (fit
 
   -- what stands where no serving does
   abbrev none : Serving
-  none = record { call = no_call; req = NoRequest; server = no_thread; turn = no_turn; answer = NoAnswer }
+  none = record { call = no_call; req = None; server = no_thread; turn = no_turn; answer = None }
 
   swap_there : (i : ℕ) → i < how_many Swaps history → i < length (swap_order history)
   swap_there i b = omega (arith, one_each Swaps call_of history)
@@ -95,12 +93,12 @@ module _ (Paid : Bool → ℕ → ℕ → Type 0) (m : Method) (f : Fields) (fit
   plain : kept.answers ≡ take p.a (plain_answers f history)
   plain = kept.fed.plain ∙ sym (answers_take f.head.object f.head.capacity fresh p.a (jobs_of f history))
 
-  plain_answer : (i : ℕ) → i < p.a → (get_or (servings history) i none).answer ≡ Answered (get_or (plain_answers f history) i Empty)
+  plain_answer : (i : ℕ) → i < p.a → (get_or (servings history) i none).answer ≡ Some (get_or (plain_answers f history) i Empty)
   plain_answer i b =
-      sym (map_at (λ (w : Serving). w.answer) (servings history) i none NoAnswer (omega (arith, all_served)))
-      ∙ ap (λ (l : List RetVal). get_or l i NoAnswer) now.answered
-      ∙ map_at Answered kept.answers i Empty NoAnswer (omega (arith, kept.fed.applied))
-      ∙ ap Answered (ap (λ (l : List Answer). get_or l i Empty) plain ∙ get_or-take p.a (plain_answers f history) i Empty b)
+      sym (map_at (λ (w : Serving). w.answer) (servings history) i none None (omega (arith, all_served)))
+      ∙ ap (λ (l : List (Option Answer)). get_or l i None) now.answered
+      ∙ map_at Some kept.answers i Empty None (omega (arith, kept.fed.applied))
+      ∙ ap Some (ap (λ (l : List Answer). get_or l i Empty) plain ∙ get_or-take p.a (plain_answers f history) i Empty b)
 
   shown_there : (i : ℕ) → i < p.a → shown_of (swap_at history i) (servings history) ≡ shown (get_or (servings history) i none)
   shown_there i b = shown_at now.swaps now.order i none no_call b
@@ -169,11 +167,11 @@ module _ (Paid : Bool → ℕ → ℕ → Type 0) (m : Method) (f : Fields) (fit
       (each_mapped (λ (r : Request). request_value r < 2 ^ 32) (asked_by f) (swap_order history) (each_all asked_fits (swap_order history)))
 
   -- what holds of no answer and of such an answer holds of the response that a call shows
-  shown_fits : (P : RetVal → Type 0) → P NoAnswer → ((a : Answer) → AnswerFits f.head.capacity a → P (Answered a))
+  shown_fits : (P : Option Answer → Type 0) → P None → ((a : Answer) → AnswerFits f.head.capacity a → P (Some a))
       → (c : Call) → P (shown_of c (servings history)).ret
   shown_fits P unserved holds c =
       let plainly = each_take _ p.a (plain_answers f history) (each_map holds (plain_answers f history) answers_given) in
-      let given : Each P (map Answered kept.answers) = rw plain (each_mapped P Answered (take p.a (plain_answers f history)) plainly) in
+      let given : Each P (map Some kept.answers) = rw plain (each_mapped P Some (take p.a (plain_answers f history)) plainly) in
       let served : Each P (map (λ (w : Serving). w.answer) (servings history)) = rw now.answered given in
       shown_each (λ (w : Shown). P w.ret) unserved c (servings history) (each_unmapped P (λ (w : Serving). w.answer) (servings history) served)
 
@@ -256,7 +254,7 @@ module _ (Paid : Bool → ℕ → ℕ → Type 0) (m : Method) (f : Fields) (fit
     over = now.over;
     at_most_swapped = omega (arith, requests_applied, swaps_done, now.order);
     in_swap_order = rw requests_applied now.swaps.served;
-    requests = rw (requests_applied, ← now.swaps.served) (now.asked ∙ sym (map-map (λ (c : Call). Asked (asked_by f c)) (λ (w : Serving). w.call) (servings history)));
+    requests = rw (requests_applied, ← now.swaps.served) (now.asked ∙ sym (map-map (λ (c : Call). Some (asked_by f c)) (λ (w : Serving). w.call) (servings history)));
     answers = rw (requests_applied, ← plain) now.answered;
     records = length-map (swap_order history) (record_of history) ∙ one_each Swaps call_of history;
     bytes = record_bytes;

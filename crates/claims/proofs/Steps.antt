@@ -12,9 +12,8 @@ use Rattle.machine.specs.declared.Method.{Method}
 use Rattle.machine.specs.declared.ThreadId.{ThreadId}
 use Rattle.state.specs.declared.State.{State}
 use Rattle.state.specs.Range.{counts_in_range}
-use Rattle.step.specs.declared.Stepped.{Stepped}
 use Rattle.step.specs.ByMethod.{counts_after_by, entered_by, out_by}
-use Rattle.step.specs.Step.{goes_through_by, step_by, step_of}
+use Rattle.step.specs.Step.{Stepped, goes_through_by, step_by, step_of}
 use Rattle.step.specs.Steps.{onward_over, steps_of}
 use Rattle.step.proofs.Outcome.{goes_through_exactly}
 use Rattle.step.proofs.Soundness.{Sound, stays_sound}

@@ -5,13 +5,13 @@ use mathlib.Core.Path.{◌≡◌, refl, ap}
 use mathlib.Core.Bool.{Bool}
 use mathlib.Core.List.{List}
 use borrow.Author.Tests.{eq-eqb, ne_eqb}
+use Rattle.std.specs.Prelude.{Some}
 use Rattle.object.specs.declared.Answer.{Answer}
 use Rattle.machine.specs.declared.Method.{Method}
 use Rattle.machine.specs.declared.Method.TheVariants.{CcSynch, DsmSynch}
 use Rattle.machine.specs.declared.ThreadId.{ThreadId}
 use Rattle.machine.specs.declared.NodeId.{NodeId}
 use Rattle.machine.specs.declared.Node.{Node}
-use Rattle.machine.specs.declared.RetVal.TheVariants.{Answered}
 use Rattle.machine.specs.declared.Event.{Event}
 use Rattle.machine.specs.declared.Event.TheVariants.{Swaps, Applies, Returns}
 use Rattle.machine.specs.Accesses.{Access}
@@ -30,7 +30,7 @@ pub record Telling (e : Entry) (assigned tail applies : NodeId) (x : Node) (answ
   pub gives : Is Swaps e → e.given ≡ tail
   pub serves : Is Applies e → e.node ≡ applies
   pub takes : Is Applies e → e.req ≡ x.req
-  pub answers : Is Applies e → e.answer ≡ Answered answer
+  pub answers : Is Applies e → e.answer ≡ Some answer
   pub returns : Is Returns e → e.ret ≡ x.ret
 
 tells_with : (t : ThreadId) (event : Event) (accesses : List Access) (remote : List Bool) (assigned tail applies : NodeId) (x : Node) (answer : Answer)

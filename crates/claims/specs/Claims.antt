@@ -2,7 +2,7 @@
 -- entries of a file's run, by either method. The entries are in Entries.antt, the terms in the crate `history`. Up to `Holds` each definition reads the file and
 -- the entries alone; `Demand3` ties them to the machine.
 -- The parts: 1 what is served, 2 the records, 3 the combiner, 4 turns, 5 remote references, 6 no refusal, 7 when calls began and returned.
-use Rattle.std.specs.Prelude.{ℕ, suc, ◌+◌, ◌-◌, ◌≤◌, ◌<◌, ◌^◌, ◌≡◌, Bool, true, false, cond, not, ◌&&◌, ◌||◌, List, [], ◌∷◌, map, reverse, length, get_or, take, drop, ltb, eqb}
+use Rattle.std.specs.Prelude.{ℕ, suc, ◌+◌, ◌-◌, ◌≤◌, ◌<◌, ◌^◌, ◌≡◌, Bool, true, false, cond, not, ◌&&◌, ◌||◌, List, [], ◌∷◌, map, reverse, length, get_or, take, drop, ltb, eqb, Some}
 use Rattle.object.specs.declared.Request.{Request}
 use Rattle.object.specs.declared.Request.TheVariants.{Put}
 use Rattle.object.specs.declared.Answer.{Answer}
@@ -15,8 +15,6 @@ use Rattle.bench_file.specs.Bytes.{low_first, Byte, InRange}
 use Rattle.machine.specs.declared.Method.{Method}
 use Rattle.machine.specs.declared.Method.TheVariants.{CcSynch, DsmSynch}
 use Rattle.machine.specs.declared.ThreadId.{ThreadId}
-use Rattle.machine.specs.declared.Announced.TheVariants.{Asked}
-use Rattle.machine.specs.declared.RetVal.TheVariants.{Answered}
 use Rattle.machine.specs.declared.Event.{Event}
 use Rattle.machine.specs.declared.Event.TheVariants.{Blank, Swaps, TurnBegins, Applies}
 use Rattle.machine.specs.Accesses.{to_null}
@@ -111,8 +109,8 @@ pub record Holds (m : Method) (f : Fields) (history : List Entry) (s a : ℕ) : 
   -- 1, of what is served: the calls, in order, are the first a of Swap order, each with its own request, and the answers are the plain object's
   pub at_most_swapped : a ≤ s
   pub in_swap_order : map (λ (w : Serving). w.call) (servings history) ≡ take a (swap_order history)
-  pub requests : map (λ (w : Serving). w.req) (servings history) ≡ map (λ (c : Call). Asked (asked_by f c)) (take a (swap_order history))
-  pub answers : map (λ (w : Serving). w.answer) (servings history) ≡ map Answered (take a (plain_answers f history))
+  pub requests : map (λ (w : Serving). w.req) (servings history) ≡ map (λ (c : Call). Some (asked_by f c)) (take a (swap_order history))
+  pub answers : map (λ (w : Serving). w.answer) (servings history) ≡ map Some (take a (plain_answers f history))
   -- 2: there are s records, of `record_length` bytes. Record i names the thread and request of Swap i, shows the plain object's answer i, whose value has 32 bits, or
   -- none from a on, and which thread of the file served it, in which turn that has begun, or none; where its mark is done it shows a count of 1 to the capacity
   pub records : length (records_of history) ≡ s

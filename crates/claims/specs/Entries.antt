@@ -1,6 +1,6 @@
 -- The entries of a file's run, by either method: what each entry of its schedule does, from the fresh machine on, by Algorithm 1 or 2 and the rules of
 -- documents 01 and 02.
-use Rattle.std.specs.Prelude.{ℕ, ◌-◌, Bool, true, cond, not, ◌&&◌, List, [], ◌∷◌, ◌++◌, map, reverse, length, take, replicate}
+use Rattle.std.specs.Prelude.{ℕ, ◌-◌, Bool, true, cond, not, ◌&&◌, List, [], ◌∷◌, ◌++◌, map, reverse, length, take, replicate, Some, None}
 use Rattle.object.specs.declared.Request.{Request}
 use Rattle.object.specs.declared.Answer.{Answer}
 use Rattle.bench_file.specs.Layout.{Fields}
@@ -9,7 +9,6 @@ use Rattle.machine.specs.declared.Method.TheVariants.{CcSynch, DsmSynch}
 use Rattle.machine.specs.declared.ThreadId.{ThreadId}
 use Rattle.machine.specs.declared.NodeId.{NodeId}
 use Rattle.machine.specs.declared.Node.{Node}
-use Rattle.machine.specs.declared.RetVal.TheVariants.{NoAnswer, Answered}
 use Rattle.machine.specs.declared.Event.{Event}
 use Rattle.machine.specs.declared.Event.TheVariants.{Applies}
 use Rattle.machine.specs.Accesses.{Access}
@@ -35,7 +34,7 @@ entry_with t event accesses remote assigned tail applies x answer = record {
   node = node_told event assigned applies;
   given = given_told event tail;
   req = req_told event x;
-  answer = cond (same_event event Applies) (Answered answer) NoAnswer;
+  answer = cond (same_event event Applies) (Some answer) None;
   ret = ret_told event x;
 }
 

@@ -8,7 +8,7 @@ use mathlib.Core.Bool.{Bool, true, false, ◌&&◌, and-false}
 use borrow.Author.Tests.{lt-ltb, le-ltb, le-leb, lt-leb, eqb-false}
 use lib.Dec.{ltb, eqb}
 use Rattle.copies.specs.Copies.{has_copy, after_read, after_write}
-use Rattle.copies.proofs.Bits.{bit, cleared, bit_set, bit_other, set_fits, bit_cleared, bit_past, past_set, past_cleared}
+use Rattle.copies.proofs.Bits.{bit, cleared, bit_set, bit_other, set_fits, bit_cleared, past_set, past_cleared}
 
 -- the number 0 has no copies
 pub none_held : (t : ℕ) → has_copy 0 t ≡ false
@@ -84,14 +84,7 @@ module _ (w t : ℕ) where
   added_fits f h e = set_fits w t 16 h f (bit_unheld w t h e)
 
 module _ (n w t : ℕ) where
-  -- after a write the threads from n on have what they had
-  pub write_keeps : (u : ℕ) → n ≤ u → has_copy (after_write n w t) u ≡ has_copy w u
-  write_keeps u k =
-      write_cases n w t (λ v. has_copy v u ≡ has_copy w u)
-      refl
-      (λ h m. same_held (cleared n w + 2 ^ t) w u (bit_other (cleared n w) t u (bit_cleared n w t h) (λ e. omega arith) ∙ bit_past n w u k))
-
-  -- as one number
+  -- after a write the threads from n on have what they had, as one number
   pub write_past : after_write n w t / 2 ^ n ≡ w / 2 ^ n
   write_past =
       write_cases n w t (λ v. v / 2 ^ n ≡ w / 2 ^ n)

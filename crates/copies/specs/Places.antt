@@ -1,5 +1,5 @@
--- What the code works out step by step: remote references by the places of locations, and whether a line stops at its first access. proofs/References.antt ties it to
--- the definitions in Remote.antt and to a row's accesses.
+-- What the code works out step by step: remote references by the places of locations, and whether a line stops at its first access. The contracts of `refer` and
+-- `refer_all` tie it to the definitions in Remote.antt and to a row's accesses.
 use Rattle.std.specs.Prelude.{ℕ, zero, suc, Bool, false, cond, List, get_or, set}
 use Rattle.machine.specs.declared.Method.{Method}
 use Rattle.machine.specs.declared.Method.TheVariants.{CcSynch, DsmSynch}

@@ -10,6 +10,7 @@ use lib.ListN.{length, get_or}
 use lib.Seq.{get_or_at}
 use lib.Dec.{T, leb, eqb}
 use borrow.Author.Tests.{lt-leb, le-ltb, eqb-true, eqb-false}
+use Rattle.std.specs.Prelude.{Some}
 use Rattle.object.specs.declared.Kind.{Kind}
 use Rattle.object.specs.declared.Request.{Request}
 use Rattle.object.specs.declared.Request.TheVariants.{Put}
@@ -19,11 +20,9 @@ use Rattle.object.specs.declared.Object.{Object}
 use Rattle.object.specs.Paper.{capacity_allowed}
 use Rattle.object.specs.Apply.{knows, fresh_object}
 use Rattle.object.proofs.Choice.{by_equal, either, unless}
-use Rattle.machine.specs.declared.Announced.TheVariants.{Asked}
-use Rattle.machine.specs.declared.RetVal.TheVariants.{Answered}
 use Rattle.machine.specs.declared.Node.{Node}
 use Rattle.machine.specs.declared.Thread.{Thread}
-use Rattle.machine.specs.declared.Effect.{Effect}
+use Rattle.machine.specs.Effect.{Effect}
 use Rattle.machine.specs.declared.Event.TheVariants.{Swaps, Applies}
 use Rattle.machine.specs.Fields.{is_empty_req, is_empty_ret}
 use Rattle.machine.specs.Events.{same_event}
@@ -72,7 +71,7 @@ stays_same th = record { begun = refl; my = λ _. refl; calling = λ q. q; asked
 module _ {n h : ℕ} {v : View} {g : Ledger} (c : Control n h v g) {requests : ℕ → ℕ → Request} {kind : Kind} {capacity : ℕ}
     {jobs : List Request} {answers : List Answer} {ob : Object} (now : Data n requests kind capacity v g jobs answers ob) where
   -- the node of a position that is not applied asks the request at it, which the object knows
-  seated_asks : (i : ℕ) → g.a ≤ i → i < g.s → ((v.node (node_at g i)).req ≡ Asked (get_or jobs i (Put 0))) × (knows kind (get_or jobs i (Put 0)) ≡ true)
+  seated_asks : (i : ℕ) → g.a ≤ i → i < g.s → ((v.node (node_at g i)).req ≡ Some (get_or jobs i (Put 0))) × (knows kind (get_or jobs i (Put 0)) ≡ true)
   seated_asks i low high =
       let s = c.seat i low high in
       let u = g.who i in
@@ -80,7 +79,7 @@ module _ {n h : ℕ} {v : View} {g : Ledger} (c : Control n h v g) {requests : �
       let f = now.call u s.who in
       let job = ap (λ (j : ℕ). get_or jobs j (Put 0)) (sym s.at) ∙ f.job s.queued in
       let node = ap (node_at g) (sym s.at) ∙ sym (placed c u s.who s.queued) in (
-        ap (λ (m : ℕ). (v.node m).req) node ∙ f.asked (queued_asked stage s.queued) ∙ ap Asked (sym job),
+        ap (λ (m : ℕ). (v.node m).req) node ∙ f.asked (queued_asked stage s.queued) ∙ ap Some (sym job),
         ap (knows kind) job ∙ f.known (queued_calling stage s.queued),
       )
 
@@ -90,11 +89,11 @@ module _ {n h : ℕ} {v : View} {g : Ledger} (c : Control n h v g) {requests : �
     serves : number l ≡ 16 → ((pointed (v.thread t) l).0 ≡ node_at g g.a) × (g.a < g.s)
     serves q = let s = serving c l below stands q in (points (v.thread t) l ∙ rw q s.0, s.1)
 
-    pub served_asks : number l ≡ 16 → (first v t l).req ≡ Asked (get_or jobs g.a (Put 0))
+    pub served_asks : number l ≡ 16 → (first v t l).req ≡ Some (get_or jobs g.a (Put 0))
     served_asks q = let s = serves q in ap (λ (m : ℕ). (v.node m).req) s.0 ∙ (seated_asks g.a (omega arith) s.1).0
 
     -- a call's last line points to its thread's node, whose request is applied, and finds its answer there
-    pub answer_there : last_line (number l) ≡ true → (first v t l).ret ≡ Answered (get_or answers (g.at t) Empty)
+    pub answer_there : last_line (number l) ≡ true → (first v t l).ret ≡ Some (get_or answers (g.at t) Empty)
     answer_there last =
         by_last (number l) last
         (λ q. returns q refl tt)
@@ -102,7 +101,7 @@ module _ {n h : ℕ} {v : View} {g : Ledger} (c : Control n h v g) {requests : �
         (λ q. returns q refl tt)
       where
         returns : {k : ℕ} → number l ≡ k → pointed_at (v.thread t) k ≡ (v.thread t).my.0
-            → T (queued (stage_of (stands_at k))) → (first v t l).ret ≡ Answered (get_or answers (g.at t) Empty)
+            → T (queued (stage_of (stands_at k))) → (first v t l).ret ≡ Some (get_or answers (g.at t) Empty)
         returns {k} q home queue =
             ap (λ (m : ℕ). (v.node m).ret) (points (v.thread t) l ∙ rw q home) ∙ (now.call t below).replied (rw (stands, q) queue) (last_served c l below stands last)
 
@@ -166,7 +165,7 @@ module _ {n h : ℕ} {v : View} {g : Ledger} (c : Control n h v g) {requests : �
 
     -- what is applied is the request after those applied, and the object knows it
     next_known : same_event (event_at v t l) Applies ≡ true
-        → (g.a < length jobs) × (knows kind (get_or jobs g.a (Put 0)) ≡ true) × ((first v t l).req ≡ Asked (get_or jobs g.a (Put 0)))
+        → (g.a < length jobs) × (knows kind (get_or jobs g.a (Put 0)) ≡ true) × ((first v t l).req ≡ Some (get_or jobs g.a (Put 0)))
     next_known e =
         let q = eqb-true (number l) 16 (sym (told v t l).applies ∙ e) in
         let s = serves l d.below d.stands q in
@@ -182,7 +181,7 @@ module _ {n h : ℕ} {v : View} {g : Ledger} (c : Control n h v g) {requests : �
     -- the call of a thread u that goes on, by what its node then has
     call_after : (u : ℕ) → u < n → Stays (v.thread u) (v'.thread u) → (u ≡ t → number l ≡ 7 → ⊥)
         → (T (asked (stage_of (v.thread u).line)) → (v'.node (v.thread u).my.0).req ≡ (v.node (v.thread u).my.0).req)
-        → (InQueue v u → g.at u < g'.a → (v'.node (v.thread u).my.0).ret ≡ Answered (get_or answers' (g.at u) Empty))
+        → (InQueue v u → g.at u < g'.a → (v'.node (v.thread u).my.0).ret ≡ Some (get_or answers' (g.at u) Empty))
         → CallAfter u
     call_after u below s apart req ret =
         let f = now.call u below in
@@ -198,7 +197,7 @@ module _ {n h : ℕ} {v : View} {g : Ledger} (c : Control n h v g) {requests : �
 
     -- every thread's call, by what the nodes then have and by the thread's own
     data_after : ((u : ℕ) → u < n → (u ≡ t → ⊥) → T (asked (stage_of (v.thread u).line)) → (v'.node (v.thread u).my.0).req ≡ (v.node (v.thread u).my.0).req)
-        → ((u : ℕ) → u < n → InQueue v u → g.at u < g'.a → (v'.node (v.thread u).my.0).ret ≡ Answered (get_or answers' (g.at u) Empty))
+        → ((u : ℕ) → u < n → InQueue v u → g.at u < g'.a → (v'.node (v.thread u).my.0).ret ≡ Some (get_or answers' (g.at u) Empty))
         → CallAfter t → After
     data_after req ret own = record {
       swaps = swaps_after;
@@ -211,7 +210,7 @@ module _ {n h : ℕ} {v : View} {g : Ledger} (c : Control n h v g) {requests : �
 
     -- a line that applies nothing and leaves ret leaves the answers
     ret_kept : eqb (number l) 16 ≡ false → effect.node.ret ≡ (v.node (goal v t l)).ret
-        → (u : ℕ) → u < n → InQueue v u → g.at u < g'.a → (v'.node (v.thread u).my.0).ret ≡ Answered (get_or answers' (g.at u) Empty)
+        → (u : ℕ) → u < n → InQueue v u → g.at u < g'.a → (v'.node (v.thread u).my.0).ret ≡ Some (get_or answers' (g.at u) Empty)
     ret_kept other e u below q i =
         let none = (told v t l).applies ∙ other in
         let same : g'.a ≡ g.a = (notes v t g l).a ∙ rw (other, add-zero) in
@@ -285,7 +284,7 @@ module _ {n h : ℕ} {v : View} {g : Ledger} (c : Control n h v g) {requests : �
 
   -- line 16 answers the request of the first position that is not applied, whose node no other thread in the queue has
   ret_served : {v' : View} {t : ℕ} (d : Runs v' t L16) (u : ℕ) → u < n → InQueue v u → g.at u < suc g.a
-      → (v'.node (v.thread u).my.0).ret ≡ Answered (get_or (answers' d) (g.at u) Empty)
+      → (v'.node (v.thread u).my.0).ret ≡ Some (get_or (answers' d) (g.at u) Empty)
   ret_served {v'} d u below q =
       let s = serves L16 d.below d.stands refl in
       ret_next now.fed _ (g.at u)

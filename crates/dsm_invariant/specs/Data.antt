@@ -1,15 +1,12 @@
 -- The invariant of requests, answers and the object of a DSM-Synch run: what holds of every call, of the answers given and of the object after every entry.
-use Rattle.std.specs.Prelude.{ℕ, ◌<◌, ◌≡◌, Bool, true, false, List, length, get_or, T}
+use Rattle.std.specs.Prelude.{ℕ, ◌<◌, ◌≡◌, Bool, true, false, List, length, get_or, T, Some}
 use Rattle.object.specs.declared.Kind.{Kind}
 use Rattle.object.specs.declared.Request.{Request}
 use Rattle.object.specs.declared.Request.TheVariants.{Put}
 use Rattle.object.specs.declared.Answer.{Answer}
 use Rattle.object.specs.declared.Answer.TheVariants.{Empty}
 use Rattle.object.specs.declared.Object.{Object}
-use Rattle.object.specs.declared.Applied.{Applied}
-use Rattle.object.specs.Apply.{knows}
-use Rattle.machine.specs.declared.Announced.TheVariants.{Asked}
-use Rattle.machine.specs.declared.RetVal.TheVariants.{Answered}
+use Rattle.object.specs.Apply.{Applied, knows}
 use Rattle.machine.specs.declared.Node.{Node}
 use Rattle.dsm_lines.specs.Lines.{Line}
 use Rattle.step.specs.Entry.{applied_at}
@@ -37,11 +34,11 @@ pub record CallData (kind : Kind) (jobs : List Request) (answers : List Answer) 
   -- its request is one that the object knows
   pub known : T (calling s) → knows kind request ≡ true
   -- line 6 has written it into the node
-  pub asked : T (asked s) → x.req ≡ Asked request
+  pub asked : T (asked s) → x.req ≡ Some request
   -- from Swap on it is the one at its position
   pub job : T (queued s) → get_or jobs i (Put 0) ≡ request
   -- once applied, its answer is in the node
-  pub replied : T (queued s) → i < a → x.ret ≡ Answered (get_or answers i Empty)
+  pub replied : T (queued s) → i < a → x.ret ≡ Some (get_or answers i Empty)
 
 -- jobs are the requests in Swap order, answers those given so far
 pub record Data (n : ℕ) (requests : ℕ → ℕ → Request) (kind : Kind) (capacity : ℕ) (v : View) (g : Ledger) (jobs : List Request) (answers : List Answer) (ob : Object) : Type 0 where

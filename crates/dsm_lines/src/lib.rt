@@ -1,9 +1,9 @@
 // The 28 printed lines of DSM-Synch, Algorithm 2 of source 004: the table of their accesses and the line that follows each.
 #![tactic(auto)]
 
-ghost use Rattle.std.specs.Prelude.{◌+◌, ◌<◌, ◌≡◌};
+ghost use Rattle.std.specs.Prelude.{◌≡◌};
 ghost use Rattle.dsm_lines.specs.Lines.{line_of, following};
-ghost use Rattle.dsm_lines.specs.Rows.{printed_line, row_of};
+ghost use Rattle.dsm_lines.specs.Rows.{row_of};
 
 use machine::Event::*;
 use machine::Field::*;
@@ -97,24 +97,9 @@ pub fn following(
     }
 }
 
-// The printed line at a place of the table.
-fn printed_line(place: usize) -> PrintedLine
-    requires { place < 28 }
-    ensures { result ≡ printed_line (line_of (place + 1)) }
-{
-    LINES[place]
-}
-
 // The row of a line, or of a blank.
 pub fn row_of(line: u8) -> Row
     ensures { result ≡ row_of (line_of line) }
 {
-    if line == 0 {
-        return machine::row_from(Local(My, Blank));
-    }
-    if line > 28 {
-        return machine::row_from(Local(My, Blank));
-    }
-    let place = (line - 1) as usize;
-    machine::row_from(printed_line(place))
+    machine::row_in(&LINES, My, line)
 }

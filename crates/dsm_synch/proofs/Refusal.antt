@@ -14,7 +14,7 @@ use Rattle.object.specs.declared.Answer.{Answer}
 use Rattle.machine.specs.declared.NodeId.{NodeId}
 use Rattle.machine.specs.declared.Node.{Node}
 use Rattle.machine.specs.declared.Thread.{Thread}
-use Rattle.machine.specs.declared.Effect.{Effect}
+use Rattle.machine.specs.Effect.{Effect}
 use Rattle.machine.specs.Lines.{line_run}
 use Rattle.dsm_lines.specs.Lines.{Line, L0, printed, line_of}
 use Rattle.dsm_lines.proofs.Numbers.{each_line}
@@ -70,6 +70,10 @@ module _ (t : ℕ) (th : Thread) (x y : Node) (tail : NodeId) (h : ℕ) (request
   refused_by : (out : Bool) → ((does out).refusal ≡ 0 → ⊥) → out ≡ true
   refused_by true e = refl
   refused_by false e = absurd (e (refuses_none (line_of line)))
+
+  -- a line that is refused is 14
+  pub refused_14 : ((effect_of t th x y tail h request answer).refusal ≡ 0 → ⊥) → (effect_of t th x y tail h request answer).refusal ≡ 14
+  refused_14 e = ap (λ (out : Bool). (does out).refusal) (refused_by (is_refused t th x h line) e)
 
   -- in a state in range
   module _ (below : t < 16) (place : th.toggle ≤ 1) where

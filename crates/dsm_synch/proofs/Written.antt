@@ -12,7 +12,7 @@ use Rattle.object.proofs.Choice.{by_test, either}
 use Rattle.machine.specs.declared.NodeId.{NodeId}
 use Rattle.machine.specs.declared.Node.{Node}
 use Rattle.machine.specs.declared.Thread.{Thread}
-use Rattle.machine.specs.declared.Effect.{Effect}
+use Rattle.machine.specs.Effect.{Effect}
 use Rattle.machine.specs.declared.Event.{Event}
 use Rattle.machine.specs.declared.Event.TheVariants.{Swaps, Applies, TurnEnds, Returns, Spins, Other}
 use Rattle.machine.specs.Fields.{is_null}

@@ -5,7 +5,7 @@ use Rattle.object.specs.declared.Answer.{Answer}
 use Rattle.machine.specs.declared.NodeId.{NodeId}
 use Rattle.machine.specs.declared.Node.{Node}
 use Rattle.machine.specs.declared.Thread.{Thread}
-use Rattle.machine.specs.declared.Effect.{Effect}
+use Rattle.machine.specs.Effect.{Effect}
 use Rattle.machine.specs.Fields.{null, is_null, is_empty_req, is_empty_ret, with_req, with_ret, with_wait, with_completed, with_next}
 use Rattle.machine.specs.Owners.{node_of}
 use Rattle.machine.specs.Threads.{goes, with_my, with_pred, with_tmp, with_served, keeping, writing}

@@ -1,9 +1,9 @@
 -- The entries of a run, by whichever method it steps: what each entry of the schedule does, and how a list of entries is read.
-use Rattle.std.specs.Prelude.{ℕ, ◌+◌, ◌≡◌, Bool, false, cond, ◌&&◌, ◌||◌, List, [], ◌∷◌, ◌++◌, eqb}
+use Rattle.std.specs.Prelude.{ℕ, ◌+◌, ◌≡◌, Bool, false, cond, ◌&&◌, ◌||◌, List, [], ◌∷◌, ◌++◌, eqb, Option}
+use Rattle.object.specs.declared.Request.{Request}
+use Rattle.object.specs.declared.Answer.{Answer}
 use Rattle.machine.specs.declared.ThreadId.{ThreadId}
 use Rattle.machine.specs.declared.NodeId.{NodeId}
-use Rattle.machine.specs.declared.Announced.{Announced}
-use Rattle.machine.specs.declared.RetVal.{RetVal}
 use Rattle.machine.specs.declared.Event.{Event}
 use Rattle.machine.specs.Accesses.{Access}
 use Rattle.machine.specs.Events.{event_number, same_event}
@@ -22,10 +22,10 @@ pub record Entry : Type 0 where
   -- the node that a Swap gives, null where it finds Tail null; null where the entry is no Swap
   pub given : NodeId
   -- the req that is applied, and the object's answer to it; empty where none is applied
-  pub req : Announced
-  pub answer : RetVal
+  pub req : Option Request
+  pub answer : Option Answer
   -- what the call returns; empty where it does not return
-  pub ret : RetVal
+  pub ret : Option Answer
 
 -- A history is the list of the entries so far, the latest first: what stands behind an entry in the list, its past, came before it in time.
 

@@ -2,15 +2,14 @@
 -- and returned, records, counts.
 -- They go by what an entry is, and by no line's number, so they are the same for every method; which line is which: the last column of `printed_line` in
 -- cc_lines/specs/Lines.antt, and `event_in` in dsm_lines/specs/Lines.antt.
-use Rattle.std.specs.Prelude.{ℕ, ◌-◌, Bool, false, cond, not, ◌&&◌, ◌||◌, List, [], ◌∷◌, ◌++◌, map, length, get_or, take, drop, eqb}
+use Rattle.std.specs.Prelude.{ℕ, ◌-◌, Bool, false, cond, not, ◌&&◌, ◌||◌, List, [], ◌∷◌, ◌++◌, map, length, get_or, take, drop, eqb, Option, Some, None}
+use Rattle.object.specs.declared.Request.{Request}
+use Rattle.object.specs.declared.Answer.{Answer}
 use Rattle.object.specs.Paper.{answer_mark, answer_value}
 use Rattle.bench_file.specs.Bytes.{low_first}
 use Rattle.bench_file.specs.Reading.{little_endian}
 use Rattle.machine.specs.declared.ThreadId.{ThreadId}
 use Rattle.machine.specs.declared.NodeId.{NodeId}
-use Rattle.machine.specs.declared.Announced.{Announced}
-use Rattle.machine.specs.declared.RetVal.{RetVal}
-use Rattle.machine.specs.declared.RetVal.TheVariants.{NoAnswer, Answered}
 use Rattle.machine.specs.declared.Event.{Event}
 use Rattle.machine.specs.declared.Event.TheVariants.{Blank, CallBegins, Swaps, TurnBegins, Applies, TurnEnds, Returns, Spins}
 use Rattle.machine.specs.Accesses.{whole}
@@ -80,10 +79,10 @@ combines t = latest false (λ e past. is_by t TurnBegins e || is_by t TurnEnds e
 -- a request is served when an entry applies it: the call, the req that is applied, the thread that serves, its turn, and the answer
 pub record Serving : Type 0 where
   pub call : Call
-  pub req : Announced
+  pub req : Option Request
   pub server : ThreadId
   pub turn : ℕ
-  pub answer : RetVal
+  pub answer : Option Answer
 
 abbrev pub serving_of : Entry → List Entry → Serving
 serving_of e past = record { call = call_assigned e.node past; req = e.req; server = e.thread; turn = turn_of e.thread past; answer = e.answer }
@@ -114,8 +113,8 @@ abbrev pub combined : Call → List Entry → Bool
 combined c = happened (does TurnBegins c)
 
 -- what a returned call returns
-abbrev pub returns : Call → List Entry → RetVal
-returns c = latest NoAnswer (does Returns c) (λ e past. e.ret)
+abbrev pub returns : Call → List Entry → Option Answer
+returns c = latest None (does Returns c) (λ e past. e.ret)
 
 -- what stands for the number of no entry
 abbrev pub no_entry : ℕ
@@ -144,7 +143,7 @@ precedes c d = happened (λ e past. does CallBegins d e past && returned c past)
 
 -- how a call was served: with which answer, by which thread and in which turn
 pub record Shown : Type 0 where
-  pub ret : RetVal
+  pub ret : Option Answer
   pub server : ThreadId
   pub turn : ℕ
 
@@ -152,20 +151,20 @@ abbrev pub shown : Serving → Shown
 shown w = record { ret = w.answer; server = w.server; turn = w.turn }
 
 abbrev pub unshown : Shown
-unshown = record { ret = NoAnswer; server = no_thread; turn = no_turn }
+unshown = record { ret = None; server = no_thread; turn = no_turn }
 
 abbrev pub shown_of : Call → List Serving → Shown
 shown_of c [] = unshown
 shown_of c (w ∷ later) = cond (same c w.call) (shown w) (shown_of c later)
 
 -- mark and value, 255 and 0 before serving
-abbrev pub ret_mark : RetVal → ℕ
-ret_mark NoAnswer = 255
-ret_mark (Answered answer) = answer_mark answer
+abbrev pub ret_mark : Option Answer → ℕ
+ret_mark None = 255
+ret_mark (Some answer) = answer_mark answer
 
-abbrev pub ret_value : RetVal → ℕ
-ret_value NoAnswer = 0
-ret_value (Answered answer) = answer_value answer
+abbrev pub ret_value : Option Answer → ℕ
+ret_value None = 0
+ret_value (Some answer) = answer_value answer
 
 -- how many bytes a record has
 abbrev pub record_length : ℕ

@@ -9,6 +9,7 @@ use lib.ListN.{length, get_or, length-append, get_or-append}
 use lib.Seq.{get_or_at}
 use lib.Dec.{T, leb, eqb}
 use borrow.Author.Tests.{lt-leb, le-ltb, ne_eqb, eqb-true}
+use Rattle.std.specs.Prelude.{Some}
 use Rattle.object.specs.declared.Kind.{Kind}
 use Rattle.object.specs.declared.Request.{Request}
 use Rattle.object.specs.declared.Request.TheVariants.{Put}
@@ -16,8 +17,6 @@ use Rattle.object.specs.declared.Answer.{Answer}
 use Rattle.object.specs.declared.Answer.TheVariants.{Empty}
 use Rattle.object.specs.declared.Object.{Object}
 use Rattle.object.specs.Apply.{fresh_object, object_in_range}
-use Rattle.machine.specs.declared.Announced.TheVariants.{Asked}
-use Rattle.machine.specs.declared.RetVal.TheVariants.{Answered}
 use Rattle.machine.specs.declared.Node.{Node}
 use Rattle.machine.specs.declared.Thread.{Thread}
 use Rattle.machine.specs.declared.Event.TheVariants.{Swaps, Applies}
@@ -70,18 +69,18 @@ module _ {n h : ℕ} {v v' : View} {t : ℕ} {l : Line} {request : Request} {ans
 module _ {n h : ℕ} {v : View} {g : Ledger} (c : Control n h v g) {requests : ℕ → ℕ → Request} {kind : Kind} {capacity : ℕ}
     {jobs : List Request} {answers : List Answer} {ob : Object} (now : Data n requests kind capacity v g jobs answers ob) where
   -- the node of a linked position asks the request at it
-  linked_asks : {i u : ℕ} → Linked n v g i u → (v.node (g.node i)).req ≡ Asked (get_or jobs i (Put 0))
+  linked_asks : {i u : ℕ} → Linked n v g i u → (v.node (g.node i)).req ≡ Some (get_or jobs i (Put 0))
   linked_asks w =
       let f = now.call _ w.below w.queued in
-      rw (← w.node, ← w.at) (f.asked w.announced ∙ ap Asked (sym f.job))
+      rw (← w.node, ← w.at) (f.asked w.announced ∙ ap Some (sym f.job))
 
   module _ {v' : View} {t : ℕ} {l : Line} {request : Request} {answer : Answer} (d : Does n h v v' t l request answer) where
     -- so does the node that line 16 points to
-    pub served_asks : number l ≡ 16 → (v.node (goal v t l)).req ≡ Asked (get_or jobs g.a (Put 0))
+    pub served_asks : number l ≡ 16 → (v.node (goal v t l)).req ≡ Some (get_or jobs g.a (Put 0))
     served_asks q = let s = serving c d q in rw s.node (linked_asks s.who)
 
     -- and a call's last line finds its answer
-    pub answer_there : (eqb (number l) 11 || eqb (number l) 21) ≡ true → (v.node (goal v t l)).ret ≡ Answered (get_or answers (g.at t) Empty)
+    pub answer_there : (eqb (number l) 11 || eqb (number l) 21) ≡ true → (v.node (goal v t l)).ret ≡ Some (get_or answers (g.at t) Empty)
     answer_there last =
         let p = last_points c d last in
         rw p.0 ((now.call t d.below (by_last (number l) last (λ q. rw (d.stands, q) tt) (λ q. rw (d.stands, q) tt))).replied p.1)
@@ -113,7 +112,7 @@ module _ {n h : ℕ} {v : View} {g : Ledger} (c : Control n h v g) {requests : �
   module _ (v' : View) (u : ℕ) (below : u < n) (s : Stays (v.thread u) (v'.thread u)) (jobs' : List Request)
       (job : get_or jobs' (g.at u) (Put 0) ≡ get_or jobs (g.at u) (Put 0))
       (req : (v'.node (v.thread u).cur.0).req ≡ (v.node (v.thread u).cur.0).req) where
-    call_after : (answers' : List Answer) (a : ℕ) → (g.at u < a → (v'.node (v.thread u).cur.0).ret ≡ Answered (get_or answers' (g.at u) Empty))
+    call_after : (answers' : List Answer) (a : ℕ) → (g.at u < a → (v'.node (v.thread u).cur.0).ret ≡ Some (get_or answers' (g.at u) Empty))
         → CallData jobs' answers' (open_request requests v' u) (g.at u) a (v'.thread u).line (v'.node (v'.thread u).cur.0)
     call_after answers' a ret =
         let f = now.call u below s.queued in

@@ -11,6 +11,7 @@ use lib.ListN.{length, get_or, length-append, get_or-append}
 use lib.Seq.{take-append-le, get_or_at}
 use lib.Ieee.Bits.{is_true}
 use borrow.Author.Tests.{le-leb}
+use Rattle.std.specs.Prelude.{Option, Some}
 use Rattle.object.specs.declared.Kind.{Kind}
 use Rattle.object.specs.declared.Request.{Request}
 use Rattle.object.specs.declared.Request.TheVariants.{Put}
@@ -22,10 +23,6 @@ use Rattle.object.specs.Paper.{capacity_allowed}
 use Rattle.object.specs.Apply.{knows, fresh_object}
 use Rattle.object.proofs.Plainly.{applies_plainly, places_stay}
 use Rattle.object.proofs.Choice.{by_equal, by_test, either}
-use Rattle.machine.specs.declared.Announced.{Announced}
-use Rattle.machine.specs.declared.Announced.TheVariants.{Asked}
-use Rattle.machine.specs.declared.RetVal.{RetVal}
-use Rattle.machine.specs.declared.RetVal.TheVariants.{Answered}
 use Rattle.machine.specs.declared.Event.{Event}
 use Rattle.machine.specs.declared.Event.TheVariants.{Applies}
 use Rattle.machine.specs.Events.{same_event}
@@ -57,7 +54,7 @@ module _ (kind : Kind) (capacity : ℕ) where
   fits_fresh allowed = record { range = rw (allowed, le-leb 0 capacity (omega arith)); places = refl }
 
   -- a storage stays as `apply` takes it, whatever an entry is
-  pub fits_kept : {ob : Object} → ObjectFits kind capacity ob → (event : Event) (req : Announced) → ObjectFits kind capacity (applied_at event kind capacity ob req).object
+  pub fits_kept : {ob : Object} → ObjectFits kind capacity ob → (event : Event) (req : Option Request) → ObjectFits kind capacity (applied_at event kind capacity ob req).object
   fits_kept {ob} fits event req =
       applied_keeps (λ answer ob. ObjectFits kind capacity ob) event kind capacity ob req fits (λ request. record {
         range = is_true _ ((applies_plainly kind capacity ob request fits.places).stays (rw fits.range tt));
@@ -70,7 +67,7 @@ module _ {kind : Kind} {capacity : ℕ} {jobs : List Request} {answers : List An
   fed_more below job = let first = take-append-le a jobs (job ∷ []) below in record { applied = fed.applied; plain = rw first fed.plain; object = rw first fed.object }
 
   -- the job after those applied is answered as the plain object does
-  pub fed_next : a < length jobs → ObjectFits kind capacity ob → knows kind (get_or jobs a (Put 0)) ≡ true → {req : Announced} → req ≡ Asked (get_or jobs a (Put 0))
+  pub fed_next : a < length jobs → ObjectFits kind capacity ob → knows kind (get_or jobs a (Put 0)) ≡ true → {req : Option Request} → req ≡ Some (get_or jobs a (Put 0))
       → Fed kind capacity jobs (answers ++ (served_by kind capacity ob req).answer ∷ []) (suc a) (served_by kind capacity ob req).object
   fed_next below fits known asks =
       let job = get_or jobs a (Put 0) in
@@ -86,8 +83,8 @@ module _ {kind : Kind} {capacity : ℕ} {jobs : List Request} {answers : List An
   fed_grown true below job = fed_more below job
   fed_grown false below job = fed
 
-  pub fed_applied : (event : Event) {req : Announced} → ObjectFits kind capacity ob
-      → (same_event event Applies ≡ true → (a < length jobs) × (knows kind (get_or jobs a (Put 0)) ≡ true) × (req ≡ Asked (get_or jobs a (Put 0))))
+  pub fed_applied : (event : Event) {req : Option Request} → ObjectFits kind capacity ob
+      → (same_event event Applies ≡ true → (a < length jobs) × (knows kind (get_or jobs a (Put 0)) ≡ true) × (req ≡ Some (get_or jobs a (Put 0))))
       → Fed kind capacity jobs (grown (same_event event Applies) answers (applied_at event kind capacity ob req).answer) (a + one_if (same_event event Applies))
       (applied_at event kind capacity ob req).object
   fed_applied event fits next =
@@ -96,8 +93,8 @@ module _ {kind : Kind} {capacity : ℕ} {jobs : List Request} {answers : List An
       (λ e. rw (e, add-zero) fed)
 
   -- a ret that is the answer at its position is so after one more answer: this answer at position a, else as it was
-  pub ret_next : (answer : Answer) (i : ℕ) {ret ret' : RetVal} → (i ≡ a → ret' ≡ Answered answer) → ((i ≡ a → ⊥) → ret' ≡ ret)
-      → (i < a → ret ≡ Answered (get_or answers i Empty)) → i < suc a → ret' ≡ Answered (get_or (answers ++ answer ∷ []) i Empty)
+  pub ret_next : (answer : Answer) (i : ℕ) {ret ret' : Option Answer} → (i ≡ a → ret' ≡ Some answer) → ((i ≡ a → ⊥) → ret' ≡ ret)
+      → (i < a → ret ≡ Some (get_or answers i Empty)) → i < suc a → ret' ≡ Some (get_or (answers ++ answer ∷ []) i Empty)
   ret_next answer i here else before below =
       by_equal i a
       (λ e. rw (e, get_or_at answers answer [] Empty a fed.applied) (here e))

@@ -1,14 +1,12 @@
 -- The invariant of requests, answers and the object of a CC-Synch run: what holds of every open call, of the answers given and of the object after every entry.
-use Rattle.std.specs.Prelude.{ℕ, ◌<◌, ◌≡◌, List, length, get_or, T}
+use Rattle.std.specs.Prelude.{ℕ, ◌<◌, ◌≡◌, List, length, get_or, T, Some}
 use Rattle.object.specs.declared.Kind.{Kind}
 use Rattle.object.specs.declared.Request.{Request}
 use Rattle.object.specs.declared.Request.TheVariants.{Put}
 use Rattle.object.specs.declared.Answer.{Answer}
 use Rattle.object.specs.declared.Answer.TheVariants.{Empty}
 use Rattle.object.specs.declared.Object.{Object}
-use Rattle.object.specs.declared.Applied.{Applied}
-use Rattle.machine.specs.declared.Announced.TheVariants.{Asked}
-use Rattle.machine.specs.declared.RetVal.TheVariants.{Answered}
+use Rattle.object.specs.Apply.{Applied}
 use Rattle.machine.specs.declared.Node.{Node}
 use Rattle.cc_lines.specs.Lines.{Line, row_of}
 use Rattle.step.specs.Entry.{applied_at}
@@ -26,9 +24,9 @@ pub record CallData (jobs : List Request) (answers : List Answer) (request : Req
   -- its request is the one at its position
   pub job : get_or jobs i (Put 0) ≡ request
   -- line 6 has written it into the node
-  pub asked : (line ≡ 6 → ⊥) → x.req ≡ Asked request
+  pub asked : (line ≡ 6 → ⊥) → x.req ≡ Some request
   -- once applied, its answer is in the node
-  pub replied : i < a → x.ret ≡ Answered (get_or answers i Empty)
+  pub replied : i < a → x.ret ≡ Some (get_or answers i Empty)
 
 -- jobs are the requests in Swap order, answers those given so far
 pub record Data (n : ℕ) (requests : ℕ → ℕ → Request) (kind : Kind) (capacity : ℕ) (v : View) (g : Ledger) (jobs : List Request) (answers : List Answer) (ob : Object) : Type 0 where

@@ -1,8 +1,7 @@
 -- What a run keeps of each call while it goes, and where: a call has one of 256 numbers, 16 for each thread.
-use Rattle.std.specs.Prelude.{ℕ, ◌+◌, ◌*◌, ◌/◌, ◌%◌, ◌^◌, Bool, cond, List}
+use Rattle.std.specs.Prelude.{ℕ, ◌+◌, ◌*◌, ◌/◌, ◌%◌, ◌^◌, Bool, cond, List, Some}
 use Rattle.object.specs.declared.Answer.{Answer}
 use Rattle.machine.specs.declared.ThreadId.{ThreadId}
-use Rattle.machine.specs.declared.RetVal.TheVariants.{Answered}
 use Rattle.machine.specs.declared.Event.{Event}
 use Rattle.machine.specs.declared.Event.TheVariants.{CallBegins, Returns}
 use Rattle.machine.specs.Events.{same_event}
@@ -53,5 +52,5 @@ after_entry k event remote number = record {
 abbrev pub after_serving : Kept → Bool → Answer → ThreadId → ℕ → Kept
 after_serving k serves answer server turn =
     cond serves
-    (kept_by (record { ret = Answered answer; server = server; turn = turn }) k.remote k.began k.returned)
+    (kept_by (record { ret = Some answer; server = server; turn = turn }) k.remote k.began k.returned)
     k

@@ -62,12 +62,10 @@ fn numbered(is: bool, number: u32, before: u32) -> u32
 pub fn after_entry(kept: Kept, event: Event, remote: u8, number: u32) -> Kept
     ensures { result ≡ after_entry kept event remote number }
 {
-    let begins = machine::same_event(event, Event::CallBegins);
-    let returns = machine::same_event(event, Event::Returns);
     let mut after = kept;
     after.remote = std::num::wrapping_add_u32(kept.remote, remote as u32);
-    after.began = numbered(begins, number, kept.began);
-    after.returned = numbered(returns, number, kept.returned);
+    after.began = numbered(event == Event::CallBegins, number, kept.began);
+    after.returned = numbered(event == Event::Returns, number, kept.returned);
     after
 }
 
@@ -122,10 +120,10 @@ pub fn note_entry(
     ensures given_after { given.new ≡ (if same_event event Event.Swaps then slice_set given.old node.0 (place % 65536) else given.old) }
     ensures order_after { order.new ≡ (if same_event event Event.Swaps then slice_set order.old counts.records (place % 65536) else order.old) }
 {
-    if machine::same_event(event, Event::TurnBegins) {
+    if event == Event::TurnBegins {
         note(turns, thread.0 as usize, counts.turns as usize);
     }
-    if machine::same_event(event, Event::Swaps) {
+    if event == Event::Swaps {
         note(given, node.0 as usize, place);
         note(order, counts.records as usize, place);
     }

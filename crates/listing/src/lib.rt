@@ -126,12 +126,10 @@ pub fn list(file: &[u8], out: &mut [u8]) -> Printed
             entries: _,
         } => {
             let mut records = [0u8; bench::ENOUGH_FOR_RECORDS];
-            let answer = bench::run(file, &mut records);
-            if answer.refusal != 0 {
-                return cells::give_refusal(answer.refusal, out);
+            match bench::run(file, &mut records) {
+                Ok(counts) => list_run(head, counts, &records, counts.records as usize, out),
+                Err(refusal) => cells::give_refusal(refusal.number(), out),
             }
-            let counts = answer.counts;
-            list_run(head, counts, &records, counts.records as usize, out)
         }
         Judged::Refused(number) => cells::give_refusal(number, out),
     }

@@ -10,7 +10,7 @@ ghost use Rattle.step.specs.Entry.{zero_slot};
 ghost use Rattle.loader.specs.Load.{request_in, slots_in, loaded_as};
 
 use bench_file::{Head, Judged};
-use machine::{Announced, Method, Node, NodeId, RetVal, Thread};
+use machine::{Method, Node, NodeId, Thread};
 use object::{Kind, Request};
 use state::{Counts, Slot, State};
 
@@ -48,8 +48,8 @@ fn fresh_node() -> Node
     ensures { result ≡ fresh_node }
 {
     Node {
-        req: Announced::NoRequest,
-        ret: RetVal::NoAnswer,
+        req: None,
+        ret: None,
         wait: false,
         completed: false,
         next: NodeId(machine::NULL),

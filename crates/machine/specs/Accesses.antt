@@ -1,6 +1,6 @@
 -- The shared accesses of a line, the only source of remote references, and the locations that they go to.
 -- An access is of one field; caches fetch nodes, so its location is the whole node: document 02, No. 5.
-use Rattle.std.specs.Prelude.{ℕ, Bool, true, false, cond, not, ◌&&◌, ◌||◌, List, [], ◌∷◌, ◌++◌, eqb}
+use Rattle.std.specs.Prelude.{ℕ, Bool, true, false, cond, not, ◌&&◌, ◌||◌, List, [], ◌∷◌, ◌++◌, get_or, eqb}
 use Rattle.machine.specs.declared.NodeId.{NodeId}
 use Rattle.machine.specs.declared.Thread.{Thread}
 use Rattle.machine.specs.declared.Pointer.{Pointer}
@@ -8,6 +8,7 @@ use Rattle.machine.specs.declared.Pointer.TheVariants.{Own, Cur, Tmp, My, Pred}
 use Rattle.machine.specs.declared.Field.{Field}
 use Rattle.machine.specs.declared.SharedAccess.{SharedAccess}
 use Rattle.machine.specs.declared.SharedAccess.TheVariants.{NoAccess, Read, Write, Swap, Cas, ReadBehind, WriteBehind}
+use Rattle.machine.specs.declared.Event.TheVariants.{Blank}
 use Rattle.machine.specs.declared.PrintedLine.{PrintedLine}
 use Rattle.machine.specs.declared.PrintedLine.TheVariants.{Local, One, Two, Three}
 use Rattle.machine.specs.declared.Row.{Row}
@@ -64,6 +65,10 @@ row_from (Local node event) = record { node = node; first = NoAccess; second = N
 row_from (One node first event) = record { node = node; first = first; second = NoAccess; third = NoAccess; event = event }
 row_from (Two node first second event) = record { node = node; first = first; second = second; third = NoAccess; event = event }
 row_from (Three node first second third event) = record { node = node; first = first; second = second; third = third; event = event }
+
+-- the row of a line in a table of printed lines, the first of them line 1; that of a blank, which has a pointer of its own, for 0 and past the last
+abbrev pub row_in : List PrintedLine → Pointer → ℕ → Row
+row_in lines blank line = row_from (get_or (Local blank Blank ∷ lines) line (Local blank Blank))
 
 -- whether a row's access is none, and whether it writes the node behind
 abbrev pub is_none : SharedAccess → Bool

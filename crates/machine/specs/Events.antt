@@ -1,10 +1,8 @@
 -- What an entry is, by number, from its line's row and what the line finds, and what it tells by that.
-use Rattle.std.specs.Prelude.{ℕ, Bool, true, false, cond, eqb}
+use Rattle.std.specs.Prelude.{ℕ, Bool, true, false, cond, eqb, Option, None}
+use Rattle.object.specs.declared.Request.{Request}
+use Rattle.object.specs.declared.Answer.{Answer}
 use Rattle.machine.specs.declared.NodeId.{NodeId}
-use Rattle.machine.specs.declared.Announced.{Announced}
-use Rattle.machine.specs.declared.Announced.TheVariants.{NoRequest}
-use Rattle.machine.specs.declared.RetVal.{RetVal}
-use Rattle.machine.specs.declared.RetVal.TheVariants.{NoAnswer}
 use Rattle.machine.specs.declared.Node.{Node}
 use Rattle.machine.specs.declared.Field.{Field}
 use Rattle.machine.specs.declared.Field.TheVariants.{Req, Ret, Wait, Completed, Next}
@@ -82,8 +80,8 @@ abbrev pub given_told : Event → NodeId → NodeId
 given_told event tail = cond (same_event event Swaps) tail null
 
 -- the req that an entry of such an event applies and the ret that it returns, of the node that its line points to; any other tells none
-abbrev pub req_told : Event → Node → Announced
-req_told event x = cond (same_event event Applies) x.req NoRequest
+abbrev pub req_told : Event → Node → Option Request
+req_told event x = cond (same_event event Applies) x.req None
 
-abbrev pub ret_told : Event → Node → RetVal
-ret_told event x = cond (same_event event Returns) x.ret NoAnswer
+abbrev pub ret_told : Event → Node → Option Answer
+ret_told event x = cond (same_event event Returns) x.ret None

@@ -1,12 +1,8 @@
 -- The fields of a node: their numbers, one of them written, those that may be empty, and null.
-use Rattle.std.specs.Prelude.{ℕ, Bool, true, false, eqb}
+use Rattle.std.specs.Prelude.{ℕ, Bool, not, eqb, Option, Some, is_some}
 use Rattle.object.specs.declared.Request.{Request}
 use Rattle.object.specs.declared.Answer.{Answer}
 use Rattle.machine.specs.declared.NodeId.{NodeId}
-use Rattle.machine.specs.declared.Announced.{Announced}
-use Rattle.machine.specs.declared.Announced.TheVariants.{NoRequest, Asked}
-use Rattle.machine.specs.declared.RetVal.{RetVal}
-use Rattle.machine.specs.declared.RetVal.TheVariants.{NoAnswer, Answered}
 use Rattle.machine.specs.declared.Node.{Node}
 use Rattle.machine.specs.declared.Field.{Field}
 use Rattle.machine.specs.declared.Field.TheVariants.{Req, Ret, Wait, Completed, Next}
@@ -19,13 +15,11 @@ abbrev pub is_null : NodeId → Bool
 is_null m = eqb m.0 255
 
 -- whether a req is empty, and a ret
-abbrev pub is_empty_req : Announced → Bool
-is_empty_req NoRequest = true
-is_empty_req (Asked request) = false
+abbrev pub is_empty_req : Option Request → Bool
+is_empty_req req = not (is_some req)
 
-abbrev pub is_empty_ret : RetVal → Bool
-is_empty_ret NoAnswer = true
-is_empty_ret (Answered answer) = false
+abbrev pub is_empty_ret : Option Answer → Bool
+is_empty_ret ret = not (is_some ret)
 
 -- the number of a field, and whether two are one
 abbrev pub field_number : Field → ℕ
@@ -41,10 +35,10 @@ same_field a b = eqb (field_number a) (field_number b)
 -- a node with one field written
 module _ (x : Node) where
   abbrev pub with_req : Request → Node
-  with_req request = record { req = Asked request; ret = x.ret; wait = x.wait; completed = x.completed; next = x.next }
+  with_req request = record { req = Some request; ret = x.ret; wait = x.wait; completed = x.completed; next = x.next }
 
   abbrev pub with_ret : Answer → Node
-  with_ret answer = record { req = x.req; ret = Answered answer; wait = x.wait; completed = x.completed; next = x.next }
+  with_ret answer = record { req = x.req; ret = Some answer; wait = x.wait; completed = x.completed; next = x.next }
 
   abbrev pub with_wait : Bool → Node
   with_wait wait = record { req = x.req; ret = x.ret; wait = wait; completed = x.completed; next = x.next }

@@ -1,4 +1,5 @@
 pub mod Accesses
+pub mod Effect
 pub mod Events
 pub mod Fields
 pub mod Lines

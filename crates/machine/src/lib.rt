@@ -2,25 +2,24 @@
 #![tactic(auto)]
 
 ghost use Rattle.std.specs.Prelude.{◌≡◌, cond};
-ghost use Rattle.machine.specs.Fields.{is_null, is_empty_req, is_empty_ret};
-ghost use Rattle.machine.specs.Accesses.{pointer_number, pointed_of, row_from, is_none, writes_behind, writes, writes_any, written_of};
-ghost use Rattle.machine.specs.Events.{event_number, same_event, stays, is_cas, event_found};
+ghost use Rattle.machine.specs.Fields.{is_null, with_req, with_ret};
+ghost use Rattle.machine.specs.Accesses.{pointed, row_from, row_in, is_none, writes_behind, writes, writes_any, written_of};
+ghost use Rattle.machine.specs.Events.{stays, is_cas, event_found};
 ghost use Rattle.machine.specs.Lines.{line_run};
 ghost use Rattle.machine.specs.Methods.{method_number, method_of, last_line};
-ghost use Rattle.machine.specs.Fields.{with_req, with_ret};
 
 use object::{Answer, Request};
 
 // A thread's number, 0 to n − 1.
-#[derive(Clone, Copy)]
+#[derive(Clone, Copy, Debug, PartialEq, Eq)]
 pub struct ThreadId(pub u8);
 
 // A node's number, or null: CC-Synch has nodes 0 to n, DSM-Synch 0 to 2n − 1.
-#[derive(Clone, Copy)]
+#[derive(Clone, Copy, Debug, PartialEq, Eq)]
 pub struct NodeId(pub u8);
 
 // What a machine steps: Algorithm 1 or Algorithm 2 of source 004.
-#[derive(Clone, Copy)]
+#[derive(Clone, Copy, Debug, PartialEq, Eq)]
 pub enum Method {
     CcSynch,
     DsmSynch,
@@ -37,24 +36,11 @@ pub const LOCATIONS: usize = 1 + NODES;
 
 pub const CALLS: usize = 256;
 
-// The field req of a node: empty at first.
-#[derive(Clone, Copy)]
-pub enum Announced {
-    NoRequest,
-    Asked(Request),
-}
-
-// The field ret of a node: empty at first.
-#[derive(Clone, Copy)]
-pub enum RetVal {
-    NoAnswer,
-    Answered(Answer),
-}
-
+// A node. Its req and ret are empty at first.
 #[derive(Clone, Copy)]
 pub struct Node {
-    pub req: Announced,
-    pub ret: RetVal,
+    pub req: Option<Request>,
+    pub ret: Option<Answer>,
     pub wait: bool,
     pub completed: bool,
     pub next: NodeId,
@@ -77,7 +63,7 @@ pub struct Thread {
 }
 
 // Which of its variables a line goes through to a node.
-#[derive(Clone, Copy)]
+#[derive(Clone, Copy, Debug, PartialEq, Eq)]
 pub enum Pointer {
     Own,
     Cur,
@@ -86,7 +72,7 @@ pub enum Pointer {
     Pred,
 }
 
-#[derive(Clone, Copy)]
+#[derive(Clone, Copy, Debug, PartialEq, Eq)]
 pub enum Field {
     Req,
     Ret,
@@ -96,7 +82,7 @@ pub enum Field {
 }
 
 // A shared access of a line: of a field of the node that it points to, or of the node behind that, its next; or a Swap or a CAS on Tail.
-#[derive(Clone, Copy)]
+#[derive(Clone, Copy, Debug, PartialEq, Eq)]
 pub enum SharedAccess {
     NoAccess,
     Read(Field),
@@ -108,7 +94,7 @@ pub enum SharedAccess {
 }
 
 // What an entry is: the terms, counts and records of a run go by it, and by no line's number. No entry is two of these.
-#[derive(Clone, Copy)]
+#[derive(Clone, Copy, Debug, PartialEq, Eq)]
 pub enum Event {
     Blank,
     CallBegins,
@@ -141,22 +127,22 @@ pub struct Row {
     pub event: Event,
 }
 
-// What a line does: refusal 0 with the thread, the node that it writes, if it writes one, and Tail after it, or 14 with all as it was.
+// What a line makes of its thread, of the node that it writes, if it writes one, and of Tail.
 #[derive(Clone, Copy)]
-pub struct Effect {
-    pub refusal: u8,
+pub struct After {
     pub thread: Thread,
     pub node: Node,
     pub tail: NodeId,
 }
 
 // The number of a method, and the method of a number.
-pub fn method_number(method: Method) -> u8
-    ensures { result ≡ method_number method }
-{
-    match method {
-        Method::CcSynch => 0,
-        Method::DsmSynch => 1,
+impl From<Method> for u8 {
+    ghost from_gives = { λ method number. number ≡ method_number method };
+
+    fn from(method: Method) -> u8
+        ensures { result ≡ method_number method }
+    {
+        method as u8
     }
 }
 
@@ -164,9 +150,10 @@ pub fn method_of(number: u8) -> Method
     ensures { result ≡ method_of number }
 {
     if number == 0 {
-        return Method::CcSynch;
+        Method::CcSynch
+    } else {
+        Method::DsmSynch
     }
-    Method::DsmSynch
 }
 
 // The last printed line of a method.
@@ -185,51 +172,22 @@ pub fn is_null(node: NodeId) -> bool
     node.0 == NULL
 }
 
-// Whether a node's req is empty, and its ret.
-pub fn is_empty_req(req: Announced) -> bool
-    ensures { result ≡ is_empty_req req }
-{
-    match req {
-        Announced::NoRequest => true,
-        Announced::Asked(_) => false,
-    }
-}
-
-pub fn is_empty_ret(ret: RetVal) -> bool
-    ensures { result ≡ is_empty_ret ret }
-{
-    match ret {
-        RetVal::NoAnswer => true,
-        RetVal::Answered(_) => false,
-    }
-}
-
 // A node with its req or its ret written.
 pub fn with_req(node: Node, request: Request) -> Node
     ensures { result ≡ with_req node request }
 {
-    let ret = node.ret;
-    let next = node.next;
     Node {
-        req: Announced::Asked(request),
-        ret,
-        wait: node.wait,
-        completed: node.completed,
-        next,
+        req: Some(request),
+        ..node
     }
 }
 
 pub fn with_ret(node: Node, answer: Answer) -> Node
     ensures { result ≡ with_ret node answer }
 {
-    let req = node.req;
-    let next = node.next;
     Node {
-        req,
-        ret: RetVal::Answered(answer),
-        wait: node.wait,
-        completed: node.completed,
-        next,
+        ret: Some(answer),
+        ..node
     }
 }
 
@@ -237,25 +195,10 @@ pub fn with_ret(node: Node, answer: Answer) -> Node
 pub fn line_run(thread: Thread) -> u8
     ensures { result ≡ line_run thread }
 {
-    if thread.line == 0 {
-        if thread.begun < thread.count {
-            return 1;
-        }
-        return 0;
+    if thread.line != 0 {
+        return thread.line;
     }
-    thread.line
-}
-
-fn pointer_number(pointer: Pointer) -> u8
-    ensures { result ≡ pointer_number pointer }
-{
-    match pointer {
-        Pointer::Own => 0,
-        Pointer::Cur => 1,
-        Pointer::Tmp => 2,
-        Pointer::My => 3,
-        Pointer::Pred => 4,
-    }
+    if thread.begun < thread.count { 1 } else { 0 }
 }
 
 fn node_if(test: bool, node: NodeId, other: NodeId) -> NodeId
@@ -264,148 +207,86 @@ fn node_if(test: bool, node: NodeId, other: NodeId) -> NodeId
     if test { node } else { other }
 }
 
-// The node that a line points to, of those that its thread's variables give. It is chosen by tests and not by a jump, which a processor guesses wrong where
-// threads take turns at random.
-pub fn pointed(
-    pointer: Pointer,
-    own: NodeId,
-    cur: NodeId,
-    tmp: NodeId,
-    my: NodeId,
-    pred: NodeId,
-) -> NodeId
-    ensures { result ≡ pointed_of pointer own cur tmp my pred }
+// The node that a line of a thread points to. It is chosen by tests and not by a jump, which a processor guesses wrong where threads take turns at random.
+pub fn pointed(pointer: Pointer, thread: Thread) -> NodeId
+    ensures { result ≡ pointed pointer thread }
 {
-    let k = pointer_number(pointer);
-    let my_or_pred = node_if(k == 3, my, pred);
-    let from_tmp = node_if(k == 2, tmp, my_or_pred);
-    let from_cur = node_if(k == 1, cur, from_tmp);
-    node_if(k == 0, own, from_cur)
+    let my_or_pred = node_if(pointer == Pointer::My, thread.my, thread.pred);
+    let from_tmp = node_if(pointer == Pointer::Tmp, thread.tmp, my_or_pred);
+    let from_cur = node_if(pointer == Pointer::Cur, thread.cur, from_tmp);
+    node_if(pointer == Pointer::Own, thread.own, from_cur)
 }
 
 // The row of a printed line.
 pub fn row_from(printed: PrintedLine) -> Row
     ensures { result ≡ row_from printed }
 {
-    match printed {
-        PrintedLine::Local(node, event) => Row {
-            node,
-            first: SharedAccess::NoAccess,
-            second: SharedAccess::NoAccess,
-            third: SharedAccess::NoAccess,
-            event,
-        },
-        PrintedLine::One(node, first, event) => Row {
-            node,
-            first,
-            second: SharedAccess::NoAccess,
-            third: SharedAccess::NoAccess,
-            event,
-        },
-        PrintedLine::Two(node, first, second, event) => Row {
-            node,
-            first,
-            second,
-            third: SharedAccess::NoAccess,
-            event,
-        },
-        PrintedLine::Three(node, first, second, third, event) => Row {
-            node,
-            first,
-            second,
-            third,
-            event,
-        },
+    let none = SharedAccess::NoAccess;
+    let (node, first, second, third, event) = match printed {
+        PrintedLine::Local(node, event) => (node, none, none, none, event),
+        PrintedLine::One(node, first, event) => (node, first, none, none, event),
+        PrintedLine::Two(node, first, second, event) => (node, first, second, none, event),
+        PrintedLine::Three(node, first, second, third, event) => (
+            node, first, second, third, event,
+        ),
+    };
+    Row {
+        node,
+        first,
+        second,
+        third,
+        event,
     }
+}
+
+// The row of a line in a method's table, whose first is line 1; 0 is a blank, and so is a number past the last.
+pub fn row_in(lines: &[PrintedLine], blank: Pointer, line: u8) -> Row
+    ensures { result ≡ row_in lines.now blank line }
+{
+    let place = line as usize;
+    if place == 0 {
+        return row_from(PrintedLine::Local(blank, Event::Blank));
+    }
+    if lines.len() < place {
+        return row_from(PrintedLine::Local(blank, Event::Blank));
+    }
+    row_from(lines[place - 1])
 }
 
 // Whether a row's access is none.
 pub fn is_none(access: SharedAccess) -> bool
     ensures { result ≡ is_none access }
 {
-    match access {
-        SharedAccess::NoAccess => true,
-        SharedAccess::Read(_) => false,
-        SharedAccess::Write(_) => false,
-        SharedAccess::Swap => false,
-        SharedAccess::Cas => false,
-        SharedAccess::ReadBehind(_) => false,
-        SharedAccess::WriteBehind(_) => false,
-    }
+    matches!(access, SharedAccess::NoAccess)
 }
 
 fn writes_behind(access: SharedAccess) -> bool
     ensures { result ≡ writes_behind access }
 {
-    match access {
-        SharedAccess::NoAccess => false,
-        SharedAccess::Read(_) => false,
-        SharedAccess::Write(_) => false,
-        SharedAccess::Swap => false,
-        SharedAccess::Cas => false,
-        SharedAccess::ReadBehind(_) => false,
-        SharedAccess::WriteBehind(_) => true,
-    }
+    matches!(access, SharedAccess::WriteBehind(_))
 }
 
 // Whether an access writes a node, and whether one of a row does.
 fn writes(access: SharedAccess) -> bool
     ensures { result ≡ writes access }
 {
-    match access {
-        SharedAccess::NoAccess => false,
-        SharedAccess::Read(_) => false,
-        SharedAccess::Write(_) => true,
-        SharedAccess::Swap => false,
-        SharedAccess::Cas => false,
-        SharedAccess::ReadBehind(_) => false,
-        SharedAccess::WriteBehind(_) => true,
-    }
+    matches!(
+        access,
+        SharedAccess::Write(_) | SharedAccess::WriteBehind(_)
+    )
 }
 
 pub fn writes_any(row: Row) -> bool
     ensures { result ≡ writes_any row }
 {
-    let first = row.first;
-    let second = row.second;
-    let third = row.third;
-    let by_first = writes(first);
-    let by_second = writes(second);
-    let by_third = writes(third);
-    by_first | (by_second | by_third)
+    writes(row.first) | (writes(row.second) | writes(row.third))
 }
 
 // The node that a line writes, if it writes one: the one behind the pointed node where the row's second access says so.
 pub fn written(row: Row, node: NodeId, behind: NodeId) -> NodeId
     ensures { result ≡ written_of row node behind }
 {
-    let second = row.second;
-    if writes_behind(second) {
-        return behind;
-    }
-    node
-}
-
-fn event_number(event: Event) -> u8
-    ensures { result ≡ event_number event }
-{
-    match event {
-        Event::Blank => 0,
-        Event::CallBegins => 1,
-        Event::Swaps => 2,
-        Event::TurnBegins => 3,
-        Event::Applies => 4,
-        Event::TurnEnds => 5,
-        Event::Returns => 6,
-        Event::Spins => 7,
-        Event::Other => 8,
-    }
-}
-
-pub fn same_event(event: Event, other: Event) -> bool
-    ensures { result ≡ same_event event other }
-{
-    event_number(event) == event_number(other)
+    node_if(writes_behind(row.second), behind, node)
 }
 
 // Whether a line that waits by an access stays: for wait while it is true, for next while it is null.
@@ -413,19 +294,9 @@ fn stays(access: SharedAccess, wait: bool, last: bool) -> bool
     ensures { result ≡ stays access wait last }
 {
     match access {
-        SharedAccess::NoAccess => false,
-        SharedAccess::Read(field) => match field {
-            Field::Req => false,
-            Field::Ret => false,
-            Field::Wait => wait,
-            Field::Completed => false,
-            Field::Next => last,
-        },
-        SharedAccess::Write(_) => false,
-        SharedAccess::Swap => false,
-        SharedAccess::Cas => false,
-        SharedAccess::ReadBehind(_) => false,
-        SharedAccess::WriteBehind(_) => false,
+        SharedAccess::Read(Field::Wait) => wait,
+        SharedAccess::Read(Field::Next) => last,
+        _ => false,
     }
 }
 
@@ -433,55 +304,37 @@ fn stays(access: SharedAccess, wait: bool, last: bool) -> bool
 fn spin_or_other(access: SharedAccess, node: Node) -> Event
     ensures { result ≡ cond (stays access node.wait (is_null node.next)) Event.Spins Event.Other }
 {
-    let next = node.next;
-    if stays(access, node.wait, is_null(next)) {
-        return Event::Spins;
+    if stays(access, node.wait, is_null(node.next)) {
+        Event::Spins
+    } else {
+        Event::Other
     }
-    Event::Other
 }
 
 fn is_cas(access: SharedAccess) -> bool
     ensures { result ≡ is_cas access }
 {
-    match access {
-        SharedAccess::NoAccess => false,
-        SharedAccess::Read(_) => false,
-        SharedAccess::Write(_) => false,
-        SharedAccess::Swap => false,
-        SharedAccess::Cas => true,
-        SharedAccess::ReadBehind(_) => false,
-        SharedAccess::WriteBehind(_) => false,
-    }
+    matches!(access, SharedAccess::Cas)
 }
 
 // The end of a turn, by a CAS only if it succeeds.
 fn end_or_other(access: SharedAccess, emptied: bool) -> Event
     ensures { result ≡ cond (is_cas access) (cond emptied Event.TurnEnds Event.Other) Event.TurnEnds }
 {
-    if is_cas(access) {
-        if emptied {
-            return Event::TurnEnds;
-        }
-        return Event::Other;
+    if is_cas(access) & !emptied {
+        Event::Other
+    } else {
+        Event::TurnEnds
     }
-    Event::TurnEnds
 }
 
 // What an entry of a row is: as the row has it, but a spin only where the line stays, and the end of a turn by a CAS only if that succeeds.
 pub fn event_in(row: Row, node: Node, emptied: bool) -> Event
     ensures { result ≡ event_found row node emptied }
 {
-    let event = row.event;
-    let first = row.first;
-    match event {
-        Event::Blank => Event::Blank,
-        Event::CallBegins => Event::CallBegins,
-        Event::Swaps => Event::Swaps,
-        Event::TurnBegins => Event::TurnBegins,
-        Event::Applies => Event::Applies,
-        Event::TurnEnds => end_or_other(first, emptied),
-        Event::Returns => Event::Returns,
-        Event::Spins => spin_or_other(first, node),
-        Event::Other => Event::Other,
+    match row.event {
+        Event::TurnEnds => end_or_other(row.first, emptied),
+        Event::Spins => spin_or_other(row.first, node),
+        event => event,
     }
 }

@@ -8,7 +8,7 @@ use Rattle.machine.specs.declared.NodeId.{NodeId}
 use Rattle.machine.specs.declared.Node.{Node}
 use Rattle.machine.specs.declared.Thread.{Thread}
 use Rattle.machine.specs.declared.Row.{Row}
-use Rattle.machine.specs.declared.Effect.{Effect}
+use Rattle.machine.specs.Effect.{Effect}
 use Rattle.machine.specs.Fields.{null}
 use Rattle.cc_lines.specs.Lines as cc
 use Rattle.cc_synch.specs.Effect as CcEffect

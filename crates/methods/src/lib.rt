@@ -2,11 +2,13 @@
 #![tactic(auto)]
 
 ghost use Rattle.std.specs.Prelude.{◌≡◌, map};
+ghost use Rattle.machine.specs.Effect.{as_effect};
 ghost use Rattle.machine.specs.Lines.{up_from};
 ghost use Rattle.methods.specs.Methods.{row_by, behind_by, effect_by, assigned_by, spin_line, spin_node};
 
-use machine::{Effect, Method, Node, NodeId, Row, Thread, ThreadId};
+use machine::{After, Method, Node, NodeId, Row, Thread, ThreadId};
 use object::{Answer, Request};
+use refusal::Refusal;
 
 // The row of a line, or of a blank.
 pub fn row_of(method: Method, line: u8) -> Row
@@ -23,10 +25,8 @@ pub fn all_rows(method: Method) -> [Row; 29]
     ensures { result ≡ map (row_by method) (up_from 0 29) }
 {
     let mut rows = [row_of(method, 0); 29];
-    let mut line = 0u8;
-    while line < 29 {
+    for line in 0..29u8 {
         rows[line as usize] = row_of(method, line);
-        line += 1;
     }
     rows
 }
@@ -54,8 +54,8 @@ pub fn run_line(
     h: u8,
     request: Request,
     answer: Answer,
-) -> Effect
-    ensures { result ≡ effect_by method thread.0 named node behind tail h request answer }
+) -> Result<After, Refusal>
+    ensures { as_effect named node tail result ≡ effect_by method thread.0 named node behind tail h request answer }
 {
     match method {
         Method::CcSynch => cc_synch::run_line(named, node, tail, h, request, answer),

@@ -5,6 +5,5 @@ pub mod Each
 pub mod Fitting
 pub mod Inverse
 pub mod Plainly
-pub mod Refusal
-pub mod Table
+pub mod Taken
 pub mod Within

@@ -11,7 +11,7 @@ use Rattle.object.specs.declared.Request.TheVariants.{Put, Take, Add}
 use Rattle.object.specs.declared.Answer.{Answer}
 use Rattle.object.specs.declared.Answer.TheVariants.{Done, Value, Empty, Full}
 use Rattle.object.specs.declared.Object.{Object}
-use Rattle.object.specs.declared.Applied.{Applied}
+use Rattle.object.specs.Apply.{Applied}
 use Rattle.object.specs.Paper.{least_capacity, most_capacity, capacity_allowed, answer_in_range}
 use Rattle.object.specs.Plain.{Response, respond, holding, plain_step, plain_put, plain_take_first, plain_take_last, plain_add}
 use Rattle.object.specs.Apply.{contents, knows, object_in_range, held_in_range, answered, refused_with, stored, moved_down, put_of, take_first_of, take_last_of, add_of, applied_known, apply_of, TellsHeld, AppliesPlainly}
@@ -162,6 +162,10 @@ module _ (kind : Kind) (capacity : ℕ) (ob : Object) (request : Request) (long 
   -- what `apply` returns is the plain object's
   pub applies_plainly : AppliesPlainly kind capacity ob request (apply_of kind capacity ob request)
   applies_plainly = (by_tests (object_in_range kind capacity ob) (knows kind request) refl refl).0
+
+  -- as equals it
+  pub plainly_as : (r : Applied) → r ≡ apply_of kind capacity ob request → AppliesPlainly kind capacity ob request r
+  plainly_as r e = rw e applies_plainly
 
   -- and the storage still has its 64 places
   pub places_stay : length (apply_of kind capacity ob request).object.items ≡ 64

@@ -1,5 +1,5 @@
 -- What `apply` does to the object's storage, every place of it, and what that storage holds as a plain object.
-use Rattle.std.specs.Prelude.{◌≡◌, ℕ, ◌+◌, ◌-◌, ◌%◌, ◌^◌, Bool, cond, ◌&&◌, T, List, ◌++◌, take, drop, replicate, ◌==◌, nat_le, nat_lt, slice_index, slice_set}
+use Rattle.std.specs.Prelude.{◌≡◌, ℕ, ◌+◌, ◌-◌, ◌%◌, ◌^◌, Bool, cond, ◌&&◌, T, List, ◌++◌, take, drop, replicate, ◌==◌, nat_le, nat_lt, slice_index, slice_set, Result, Ok, Err}
 use Rattle.object.specs.declared.Kind.{Kind}
 use Rattle.object.specs.declared.Kind.TheVariants.{Queue, Stack, Counter}
 use Rattle.object.specs.declared.Request.{Request}
@@ -7,7 +7,8 @@ use Rattle.object.specs.declared.Request.TheVariants.{Put, Take, Add}
 use Rattle.object.specs.declared.Answer.{Answer}
 use Rattle.object.specs.declared.Answer.TheVariants.{Done, Value, Empty, Full}
 use Rattle.object.specs.declared.Object.{Object}
-use Rattle.object.specs.declared.Applied.{Applied}
+use Rattle.refusal.specs.declared.Refusal.{Refusal}
+use Rattle.refusal.specs.Numbers.{number}
 use Rattle.object.specs.Paper.{request_code, code_known, capacity_allowed, answer_in_range}
 use Rattle.object.specs.Plain.{Plain, plain_step}
 
@@ -30,6 +31,12 @@ object_in_range kind capacity ob = held_in_range kind capacity ob.held
 abbrev pub knows : Kind → Request → Bool
 knows kind request = code_known kind (request_code request)
 
+-- what a request does: refusal 0, the answer and the object after it, or the number of a refusal
+pub record Applied : Type 0 where
+  pub refusal : ℕ
+  pub answer : Answer
+  pub object : Object
+
 -- an answer, and the object after it
 abbrev pub answered : Answer → Object → Applied
 answered answer ob = record { refusal = 0; answer = answer; object = ob }
@@ -37,6 +44,11 @@ answered answer ob = record { refusal = 0; answer = answer; object = ob }
 -- a refusal has its number, and the object as it was; its answer means nothing
 abbrev pub refused_with : ℕ → Object → Applied
 refused_with number ob = record { refusal = number; answer = Empty; object = ob }
+
+-- the number and the values of what `apply` returns for an object
+abbrev pub as_applied : Object → Result (Answer × Object) Refusal → Applied
+as_applied ob (Ok done) = answered done.0 done.1
+as_applied ob (Err refusal) = refused_with (number refusal) ob
 
 abbrev pub stored : Object → List ℕ → ℕ → Object
 stored ob items held = record { items = items; held = held; sum = ob.sum }

@@ -1,5 +1,7 @@
 -- The numbers that document 01 and request No. 3 give to objects, requests and answers, and the ranges that depend on the object and its capacity.
-use Rattle.std.specs.Prelude.{ℕ, Bool, true, not, ◌&&◌, ◌||◌, [], ◌∷◌, ◌==◌, nat_le, slice_index_or}
+use Rattle.std.specs.Prelude.{ℕ, Bool, true, not, cond, Result, Ok, Err, ◌&&◌, ◌||◌, [], ◌∷◌, ◌==◌, nat_le, slice_index_or}
+use Rattle.refusal.specs.declared.Refusal.{Refusal}
+use Rattle.refusal.specs.declared.Refusal.TheVariants as Refused
 use Rattle.object.specs.declared.Kind.{Kind}
 use Rattle.object.specs.declared.Kind.TheVariants.{Queue, Stack, Counter}
 use Rattle.object.specs.declared.Request.{Request}
@@ -20,6 +22,10 @@ kind_number Counter = 2
 -- the kind with that number, for a number that is at most 2; a larger one, which 4 refuses, gives the counter
 abbrev pub kind_of : ℕ → Kind
 kind_of number = slice_index_or (Queue ∷ Stack ∷ []) number Counter
+
+-- the kind that an object byte names; one above 2 is refused
+abbrev pub kind_judged : ℕ → Result Kind Refusal
+kind_judged number = cond (nat_le number 2) (Ok (kind_of number)) (Err Refused.Object)
 
 -- the code byte of a request: 0 put, 1 take, 2 add
 abbrev pub request_code : Request → ℕ

@@ -1,13 +1,15 @@
 // The shared object: requests and answers, and the queue, the stack and the counter that a request is applied to.
 #![tactic(auto)]
 
-ghost use Rattle.std.specs.Prelude.{◌≡◌, ◌≤◌};
-ghost use Rattle.object.specs.Paper.{within, kind_number, kind_of, request_code, request_value, request_of, answer_mark, answer_value, least_code, most_code, code_known, value_allowed, least_capacity, most_capacity, capacity_allowed, answer_in_range};
+ghost use Rattle.std.specs.Prelude.{◌≡◌, ◌≤◌, ◌<◌};
+ghost use Rattle.object.specs.Paper.{within, kind_number, kind_of, kind_judged, request_code, request_value, request_of, answer_mark, answer_value, least_code, most_code, code_known, value_allowed, least_capacity, most_capacity, capacity_allowed, answer_in_range};
 ghost use Rattle.object.specs.Plain.{fresh};
-ghost use Rattle.object.specs.Apply.{fresh_object, contents, knows, answered, refused_with, put_of, take_first_of, take_last_of, take_of, add_of, moved_down, held_in_range, applied_to, apply_of, AppliesPlainly};
+ghost use Rattle.object.specs.Apply.{fresh_object, contents, knows, answered, put_of, take_first_of, take_last_of, take_of, add_of, held_in_range, applied_to, apply_of, as_applied, AppliesPlainly};
+
+use refusal::Refusal;
 
 // What the object byte of a bench file names.
-#[derive(Clone, Copy)]
+#[derive(Clone, Copy, Debug, PartialEq, Eq)]
 pub enum Kind {
     Queue,
     Stack,
@@ -15,7 +17,7 @@ pub enum Kind {
 }
 
 // Only put and add carry a value.
-#[derive(Clone, Copy)]
+#[derive(Clone, Copy, Debug, PartialEq, Eq)]
 pub enum Request {
     Put(u32),
     Take,
@@ -23,7 +25,7 @@ pub enum Request {
 }
 
 // A put that is done carries the count of items held after it.
-#[derive(Clone, Copy)]
+#[derive(Clone, Copy, Debug, PartialEq, Eq)]
 pub enum Answer {
     Done(u32),
     Value(u32),
@@ -31,7 +33,8 @@ pub enum Answer {
     Full,
 }
 
-// The object's storage: the queue and the stack use the first `held` of the 64 places, the counter `sum`.
+// The object's storage: the queue and the stack use the first `held` of the 64 places, the counter `sum`. A host hands in any `held`, one out of range
+// is refused, and the places past those held are kept as they were: so the array and the count of it stand side by side.
 #[derive(Clone, Copy)]
 pub struct Object {
     pub items: [u32; 64],
@@ -39,25 +42,14 @@ pub struct Object {
     pub sum: u32,
 }
 
-// Refusal 0 with the answer and the object after, or a refusal's number with the object as it was.
-#[derive(Clone, Copy)]
-pub struct Applied {
-    pub refusal: u8,
-    pub answer: Answer,
-    pub object: Object,
-}
-
 // Whether x is in a range, both ends included.
 pub fn between(least: u8, x: u8, most: u8) -> bool
     ensures { result ≡ within least x most }
 {
-    if x < least {
-        return false;
-    }
-    x <= most
+    (least..=most).contains(&x)
 }
 
-// The kind of an object byte that was judged by 4; from 2 on it is the counter.
+// The kind of an object byte that was judged by 4. From 2 on it is the counter: callers that have judged the byte need no refusal; others take `Kind::try_from`.
 pub fn kind_of(number: u8) -> Kind
     ensures { result ≡ kind_of number }
 {
@@ -68,17 +60,35 @@ pub fn kind_of(number: u8) -> Kind
     }
 }
 
-pub fn kind_number(kind: Kind) -> u8
-    ensures { result ≡ kind_number kind }
-{
-    match kind {
-        Kind::Queue => 0,
-        Kind::Stack => 1,
-        Kind::Counter => 2,
+// An object byte above 2 is refused.
+impl TryFrom<u8> for Kind {
+    type Error = Refusal;
+
+    ghost try_from_gives = { λ number r. r ≡ kind_judged number };
+
+    fn try_from(number: u8) -> Result<Self, Refusal> {
+        match number {
+            0 => Ok(Kind::Queue),
+            1 => Ok(Kind::Stack),
+            2 => Ok(Kind::Counter),
+            _ => Err(Refusal::Object),
+        }
     }
 }
 
-// The request of a code that was judged by 9; from 2 on it is an add, and a take drops its value.
+impl From<Kind> for u8 {
+    ghost from_gives = { λ kind number. number ≡ kind_number kind };
+
+    fn from(kind: Kind) -> u8 {
+        match kind {
+            Kind::Queue => 0,
+            Kind::Stack => 1,
+            Kind::Counter => 2,
+        }
+    }
+}
+
+// The request of a code and a value that were judged by 9. From 2 on it is an add, and a take drops its value: it cannot fail.
 pub fn request_of(code: u8, value: u32) -> Request
     ensures { result ≡ request_of code value }
 {
@@ -103,9 +113,8 @@ pub fn request_value(request: Request) -> u32
     ensures { result ≡ request_value request }
 {
     match request {
-        Request::Put(value) => value,
+        Request::Put(value) | Request::Add(value) => value,
         Request::Take => 0,
-        Request::Add(value) => value,
     }
 }
 
@@ -124,10 +133,8 @@ pub fn answer_value(answer: Answer) -> u32
     ensures { result ≡ answer_value answer }
 {
     match answer {
-        Answer::Done(count) => count,
-        Answer::Value(value) => value,
-        Answer::Empty => 0,
-        Answer::Full => 0,
+        Answer::Done(value) | Answer::Value(value) => value,
+        Answer::Empty | Answer::Full => 0,
     }
 }
 
@@ -136,8 +143,7 @@ pub fn least_code(kind: Kind) -> u8
     ensures { result ≡ least_code kind }
 {
     match kind {
-        Kind::Queue => 0,
-        Kind::Stack => 0,
+        Kind::Queue | Kind::Stack => 0,
         Kind::Counter => 2,
     }
 }
@@ -146,8 +152,7 @@ pub fn most_code(kind: Kind) -> u8
     ensures { result ≡ most_code kind }
 {
     match kind {
-        Kind::Queue => 1,
-        Kind::Stack => 1,
+        Kind::Queue | Kind::Stack => 1,
         Kind::Counter => 2,
     }
 }
@@ -162,10 +167,7 @@ pub fn code_known(kind: Kind, code: u8) -> bool
 pub fn value_allowed(code: u8, value: u32) -> bool
     ensures { result ≡ value_allowed code value }
 {
-    if code == 1 {
-        return value == 0;
-    }
-    true
+    code != 1 || value == 0
 }
 
 // The capacities that a kind allows reach from the least to the most.
@@ -173,8 +175,7 @@ pub fn least_capacity(kind: Kind) -> u8
     ensures { result ≡ least_capacity kind }
 {
     match kind {
-        Kind::Queue => 1,
-        Kind::Stack => 1,
+        Kind::Queue | Kind::Stack => 1,
         Kind::Counter => 0,
     }
 }
@@ -183,8 +184,7 @@ pub fn most_capacity(kind: Kind) -> u8
     ensures { result ≡ most_capacity kind }
 {
     match kind {
-        Kind::Queue => 64,
-        Kind::Stack => 64,
+        Kind::Queue | Kind::Stack => 64,
         Kind::Counter => 0,
     }
 }
@@ -200,10 +200,8 @@ pub fn answer_in_range(capacity: u8, answer: Answer) -> bool
     ensures { result ≡ answer_in_range capacity answer }
 {
     match answer {
-        Answer::Done(count) => (1 <= count) & (count <= capacity as u32),
-        Answer::Value(_) => true,
-        Answer::Empty => true,
-        Answer::Full => true,
+        Answer::Done(count) => (1..=u32::from(capacity)).contains(&count),
+        Answer::Value(_) | Answer::Empty | Answer::Full => true,
     }
 }
 
@@ -222,114 +220,69 @@ pub fn fresh() -> Object
 pub fn held_in_range(kind: Kind, capacity: u8, held: u8) -> bool
     ensures { result ≡ held_in_range kind capacity held }
 {
-    if capacity_allowed(kind, capacity) {
-        return held <= capacity;
-    }
-    false
+    capacity_allowed(kind, capacity) && held <= capacity
 }
 
-fn answered(answer: Answer, object: Object) -> Applied
-    ensures { result ≡ answered answer object }
-{
-    Applied {
-        refusal: 0,
-        answer,
-        object,
-    }
-}
-
-fn refused_with(number: u8, object: Object) -> Applied
-    ensures { result ≡ refused_with number object }
-{
-    Applied {
-        refusal: number,
-        answer: Answer::Empty,
-        object,
-    }
-}
-
-// The items after the first, of the `held` that there are, each moved down by one.
-fn moved_down(items: [u32; 64], held: u8) -> [u32; 64]
-    requires { held ≤ 64 }
-    ensures { result ≡ moved_down items held }
-{
-    let count = held as usize;
-    let mut moved = items;
-    let mut i: usize = 0;
-    while i + 1 < count {
-        moved[i] = items[i + 1];
-        i += 1;
-    }
-    moved
-}
-
-fn put(capacity: u8, value: u32, object: Object) -> Applied
+fn put(capacity: u8, value: u32, object: Object) -> (Answer, Object)
     requires { capacity ≤ 64 }
-    ensures { result ≡ put_of capacity value object }
+    ensures { answered result.0 result.1 ≡ put_of capacity value object }
 {
     let held = object.held;
     if held < capacity {
         let mut after = object;
-        let place = held as usize;
-        after.items[place] = value;
-        after.held = held + 1;
-        let count = after.held as u32;
-        return answered(Answer::Done(count), after);
+        after.items[usize::from(held)] = value;
+        after.held += 1;
+        let count = u32::from(after.held);
+        return (Answer::Done(count), after);
     }
-    answered(Answer::Full, object)
+    (Answer::Full, object)
 }
 
-fn take_first(object: Object) -> Applied
+// The items after the first move down by one.
+fn take_first(object: Object) -> (Answer, Object)
     requires { object.held ≤ 64 }
-    ensures { result ≡ take_first_of object }
+    ensures { answered result.0 result.1 ≡ take_first_of object }
 {
-    let held = object.held;
-    if held == 0 {
-        return answered(Answer::Empty, object);
-    }
-    let items = object.items;
-    let moved = moved_down(items, held);
-    let after = Object {
-        items: moved,
-        held: held - 1,
-        sum: object.sum,
-    };
-    answered(Answer::Value(items[0]), after)
-}
-
-fn take_last(object: Object) -> Applied
-    requires { object.held ≤ 64 }
-    ensures { result ≡ take_last_of object }
-{
-    let held = object.held;
-    if held == 0 {
-        return answered(Answer::Empty, object);
+    if object.held == 0 {
+        return (Answer::Empty, object);
     }
     let mut after = object;
-    after.held = held - 1;
-    let last = (held - 1) as usize;
-    answered(Answer::Value(object.items[last]), after)
+    after.items.copy_within(1..usize::from(object.held), 0);
+    after.held -= 1;
+    (Answer::Value(object.items[0]), after)
+}
+
+fn take_last(object: Object) -> (Answer, Object)
+    requires { object.held ≤ 64 }
+    ensures { answered result.0 result.1 ≡ take_last_of object }
+{
+    if object.held == 0 {
+        return (Answer::Empty, object);
+    }
+    let held = object.held - 1;
+    (
+        Answer::Value(object.items[usize::from(held)]),
+        Object { held, ..object },
+    )
 }
 
 // The counter knows no take.
-fn take(kind: Kind, object: Object) -> Applied
+fn take(kind: Kind, object: Object) -> Result<(Answer, Object), Refusal>
     requires { object.held ≤ 64 }
-    ensures { result ≡ take_of kind object }
+    ensures { as_applied object result ≡ take_of kind object }
 {
     match kind {
-        Kind::Queue => take_first(object),
-        Kind::Stack => take_last(object),
-        Kind::Counter => refused_with(9, object),
+        Kind::Queue => Ok(take_first(object)),
+        Kind::Stack => Ok(take_last(object)),
+        Kind::Counter => Err(Refusal::Request),
     }
 }
 
-fn add(value: u32, object: Object) -> Applied
-    ensures { result ≡ add_of value object }
+fn add(value: u32, object: Object) -> (Answer, Object)
+    ensures { answered result.0 result.1 ≡ add_of value object }
 {
-    let sum = object.sum;
-    let mut after = object;
-    after.sum = std::num::wrapping_add_u32(sum, value);
-    answered(Answer::Value(sum), after)
+    let sum = object.sum.wrapping_add(value);
+    (Answer::Value(object.sum), Object { sum, ..object })
 }
 
 // A request that the object knows.
@@ -340,27 +293,38 @@ pub fn knows(kind: Kind, request: Request) -> bool
 }
 
 // A request to an object in range.
-fn applied_to(kind: Kind, capacity: u8, request: Request, object: Object) -> Applied
+fn applied_to(
+    kind: Kind,
+    capacity: u8,
+    request: Request,
+    object: Object,
+) -> Result<(Answer, Object), Refusal>
     requires { (capacity ≤ 64) × (object.held ≤ 64) }
-    ensures { result ≡ applied_to kind capacity request object }
+    ensures { as_applied object result ≡ applied_to kind capacity request object }
 {
     if !knows(kind, request) {
-        return refused_with(9, object);
+        return Err(Refusal::Request);
     }
     match request {
-        Request::Put(value) => put(capacity, value, object),
+        Request::Put(value) => Ok(put(capacity, value, object)),
         Request::Take => take(kind, object),
-        Request::Add(value) => add(value, object),
+        Request::Add(value) => Ok(add(value, object)),
     }
 }
 
-// A request applied to the object: capacity and items held are judged first, then the request.
-pub fn apply(kind: Kind, capacity: u8, object: Object, request: Request) -> Applied
-    ensures value { result ≡ apply_of kind capacity object request }
-    ensures applies_plainly { AppliesPlainly kind capacity object request result }
+// A request applied to the object: its answer and the object after it. Capacity and items held are judged first, then the request. Kind and capacity stand
+// beside the object, as in a state.
+pub fn apply(
+    kind: Kind,
+    capacity: u8,
+    object: Object,
+    request: Request,
+) -> Result<(Answer, Object), Refusal>
+    ensures value { as_applied object result ≡ apply_of kind capacity object request }
+    ensures applies_plainly { AppliesPlainly kind capacity object request (as_applied object result) }
 {
     if !held_in_range(kind, capacity, object.held) {
-        return refused_with(14, object);
+        return Err(Refusal::OutOfRange);
     }
     applied_to(kind, capacity, request, object)
 }

@@ -7,13 +7,13 @@ use mathlib.Core.Bool.{true}
 use mathlib.Core.List.{List, [], ◌∷◌, map}
 use lib.ListN.{length, get_or}
 use borrow.Author.Tests.{eq-eqb, ne_eqb}
-use Rattle.object.specs.declared.Answer.TheVariants as Answer
+use Rattle.std.specs.Prelude.{Option, Some, None}
+use Rattle.object.specs.declared.Answer.{Answer}
 use Rattle.object.specs.Each.{Each}
 use Rattle.object.proofs.Each.{each_get_or, each_map}
 use Rattle.object.proofs.Choice.{by_equal, by_order}
 use Rattle.bench_file.specs.Layout.{Fields}
 use Rattle.bench_file.specs.Bytes.{InRange}
-use Rattle.machine.specs.declared.RetVal.{RetVal}
 use Rattle.machine.specs.declared.Event.TheVariants.{Swaps, Applies}
 use Rattle.history.specs.Entries.{Entry, how_many}
 use Rattle.history.specs.Terms.{Call, no_call, call_of, swap_order, swap_at, servings, shown_of, no_thread, no_turn, cost_of, returned, ret_value, record_of}
@@ -51,12 +51,12 @@ or_hyphen_fits width none n b =
     (λ e. rw (eq-eqb n none e) (omega arith, tt))
     (λ e. let small = b e in rw (ne_eqb n none e) (number_fits width n small.0 small.1))
 
-value_fits : (ret : RetVal) → ret_value ret < 2 ^ 32 → FitsIn 10 (value_cell ret)
-value_fits RetVal.NoAnswer b = (omega arith, tt)
-value_fits (RetVal.Answered (Answer.Done count)) b = (at_most 9 count, b)
-value_fits (RetVal.Answered (Answer.Value v)) b = (at_most 9 v, b)
-value_fits (RetVal.Answered Answer.Empty) b = (omega arith, tt)
-value_fits (RetVal.Answered Answer.Full) b = (omega arith, tt)
+value_fits : (ret : Option Answer) → ret_value ret < 2 ^ 32 → FitsIn 10 (value_cell ret)
+value_fits None b = (omega arith, tt)
+value_fits (Some (Answer.Done count)) b = (at_most 9 count, b)
+value_fits (Some (Answer.Value v)) b = (at_most 9 v, b)
+value_fits (Some Answer.Empty) b = (omega arith, tt)
+value_fits (Some Answer.Full) b = (omega arith, tt)
 
 infixr 20 ◌and◌
 ◌and◌ : {A B C : Type 0} → A × B → C → A × B × C

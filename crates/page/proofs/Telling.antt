@@ -8,11 +8,11 @@ use lib.ListN.{length, get_or, take, drop, length-append, length-replicate}
 use lib.Seq.{take_at, drop_at}
 use lib.Dec.{eqb, leb, ltb}
 use borrow.Author.Tests.{eq-eqb, ne_eqb, le-leb}
-use Rattle.object.specs.declared.Answer.TheVariants as Answer
+use Rattle.std.specs.Prelude.{Option, Some, None}
+use Rattle.object.specs.declared.Answer.{Answer}
 use Rattle.object.specs.Each.{Each, every}
 use Rattle.object.proofs.Each.{each_get_or}
 use Rattle.object.proofs.Choice.{by_equal}
-use Rattle.machine.specs.declared.RetVal.{RetVal}
 use Rattle.history.specs.Terms.{no_thread, no_turn}
 use Rattle.cells.specs.declared.Word.{Word}
 use Rattle.cells.specs.declared.Word.TheVariants.{Queue, Stack, Counter, Done, Value, Empty, Full, NoAnswer, Hyphen, Returned, Open, Cc, Dsm}
@@ -148,15 +148,15 @@ word_in (Number n) = Hyphen
 word_in (Says word) = word
 
 -- the words done, value, empty and full have the numbers 3 to 6 in their table, and marks 0 to 3
-abbrev ret_in : Word → Cell → RetVal
+abbrev ret_in : Word → Cell → Option Answer
 ret_in word cell = ret_of (word_number word - 3) (number_in 0 cell)
 
-ret_told_lem : (ret : RetVal) → ret_in (mark_word ret) (value_cell ret) ≡ ret
-ret_told_lem RetVal.NoAnswer = refl
-ret_told_lem (RetVal.Answered (Answer.Done count)) = refl
-ret_told_lem (RetVal.Answered (Answer.Value v)) = refl
-ret_told_lem (RetVal.Answered Answer.Empty) = refl
-ret_told_lem (RetVal.Answered Answer.Full) = refl
+ret_told_lem : (ret : Option Answer) → ret_in (mark_word ret) (value_cell ret) ≡ ret
+ret_told_lem None = refl
+ret_told_lem (Some (Answer.Done count)) = refl
+ret_told_lem (Some (Answer.Value v)) = refl
+ret_told_lem (Some Answer.Empty) = refl
+ret_told_lem (Some Answer.Full) = refl
 
 number_told : (none n : ℕ) → number_in none (or_hyphen none n) ≡ n
 number_told none n = by_equal n none (λ e. rw (eq-eqb n none e, e)) (λ e. rw (ne_eqb n none e))

@@ -1,8 +1,7 @@
 -- Whole pages: of document 01's 64-byte file, of it cut to 20 entries (served and still open), to 5 and to 4, of a queue that gives every answer, of a stack
 -- with request No. 3's counts, of two threads with h = 8 and h = 1, and of three threads of DSM-Synch; and the widest row.
-use Rattle.std.specs.Prelude.{ℕ, true, List, [], ◌∷◌, ◌++◌}
+use Rattle.std.specs.Prelude.{ℕ, true, List, [], ◌∷◌, ◌++◌, Some}
 use Rattle.object.specs.declared.Answer.TheVariants.{Value}
-use Rattle.machine.specs.declared.RetVal.TheVariants.{Answered}
 use Rattle.cells.specs.Text.{text}
 use Rattle.cells.specs.Cells.{Row}
 
@@ -49,7 +48,7 @@ widest = record {
   order = 255;
   thread = 15;
   request = 15;
-  ret = Answered (Value 4_294_967_295);
+  ret = Some (Value 4_294_967_295);
   server = 15;
   turn = 65_534;
   remote = 4_294_967_295;

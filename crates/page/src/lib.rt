@@ -69,10 +69,11 @@ pub fn page(file: &[u8], out: &mut [u8]) -> Printed
     ensures { Prints file.now out.old out.new result }
 {
     let mut records = [0u8; bench::ENOUGH_FOR_RECORDS];
-    let answer = bench::run(file, &mut records);
-    let refusal = answer.refusal;
-    if refusal != 0 {
-        return Printed { refusal, length: 0 };
+    match bench::run(file, &mut records) {
+        Ok(counts) => print_run(&records, counts.records as usize, out),
+        Err(refusal) => Printed {
+            refusal: refusal.number(),
+            length: 0,
+        },
     }
-    print_run(&records, answer.counts.records as usize, out)
 }

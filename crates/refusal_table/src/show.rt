@@ -48,9 +48,9 @@ pub(crate) fn judged(output: &mut Output, file: &[u8]) {
             byte(output, 0);
             output.spaced(head.version as u64);
             let kind = head.object;
-            let object = object::kind_number(kind);
+            let object = u8::from(kind);
             let method = head.method;
-            let by = machine::method_number(method);
+            let by = u8::from(method);
             bytes(output, &[object, head.n, head.h, head.capacity, by]);
             output.spaced(requests as u64);
             output.spaced(entries as u64);

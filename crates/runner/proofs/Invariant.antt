@@ -7,6 +7,7 @@ use mathlib.Core.Bool.{Bool, false}
 use mathlib.Core.List.{List, [], ◌∷◌}
 use lib.ListN.{length}
 use lib.Dec.{eqb}
+use Rattle.std.specs.Prelude.{Some}
 use Rattle.object.specs.declared.Request.{Request}
 use Rattle.object.specs.declared.Answer.{Answer}
 use Rattle.object.specs.Each.{Each}
@@ -18,7 +19,6 @@ use Rattle.machine.specs.declared.ThreadId.{ThreadId}
 use Rattle.machine.specs.declared.Thread.{Thread}
 use Rattle.machine.specs.declared.Event.{Event}
 use Rattle.machine.specs.declared.Event.TheVariants.{Blank, Swaps, Applies}
-use Rattle.machine.specs.declared.RetVal.TheVariants.{Answered}
 use Rattle.machine.specs.Accesses.{Access}
 use Rattle.machine.specs.Methods.{last_line}
 use Rattle.machine.specs.Sizes.{most_calls, most_nodes}
@@ -123,7 +123,7 @@ pub record Next (m : Method) (f : Fields) (s : State) (past : List Entry) (t : T
   pub assigns : Is Swaps (entry_by m s t) → (assigned_by m s t).0 < most_nodes
   pub serves : Is Applies (entry_by m s t) → (points_to_by m s t).0 < most_nodes
   -- the answer that it gives
-  pub answers : Is Applies (entry_by m s t) → (entry_by m s t).answer ≡ Answered (applied_by m s t).answer
+  pub answers : Is Applies (entry_by m s t) → (entry_by m s t).answer ≡ Some (applied_by m s t).answer
   -- a blank makes no reference
   pub silent : Is Blank (entry_by m s t) → remote_in (entry_by m s t).remote ≡ 0
 
@@ -186,7 +186,7 @@ module _ (f : Fields) (fits : InRange f) (s : State) (past : List Entry) (t : Th
       → Chronicle (Paid m) f x' p'' cost' answers' (entry_by m s t ∷ past) → t.0 < f.head.n → x'.begun t.0 ≡ (effect_by m s t).thread.begun
       → Tells t.0 (event_by m s t) (assigned_by m s t).0 (points_to_by m s t).0 (entry_by m s t)
       → (Is Swaps (entry_by m s t) → (assigned_by m s t).0 < most_nodes) → (Is Applies (entry_by m s t) → (points_to_by m s t).0 < most_nodes)
-      → (Is Applies (entry_by m s t) → (entry_by m s t).answer ≡ Answered (applied_by m s t).answer) → (Is Blank (entry_by m s t) → accesses_by m s t ≡ []) → Next m f s past t
+      → (Is Applies (entry_by m s t) → (entry_by m s t).answer ≡ Some (applied_by m s t).answer) → (Is Blank (entry_by m s t) → accesses_by m s t ≡ []) → Next m f s past t
   next_from m {x} {x'} {p} {p'} moved chronicle after inside begun tells assigns serves answers silent = record {
     seen = x;
     seen_after = x';

@@ -58,6 +58,10 @@ module _ (bytes : List ℕ) (each : Each Byte bytes) {r : Loaded} where
   pub ready : r ≡ loaded_as (judge_of bytes) → r.refusal ≡ 0 → Ready bytes (judge_of bytes) r
   ready = by_judgement (judge_of bytes) refl
 
+pub refused_small : (bytes : List ℕ) (j : Judgement) {r : Loaded} → judge_of bytes ≡ j → r ≡ loaded_as j → (r.refusal ≡ 0 → ⊥) → (1 ≤ r.refusal) × (r.refusal ≤ 16)
+refused_small bytes (accepted f) e loaded some = absurd (some (ap (λ (r : Loaded). r.refusal) loaded))
+refused_small bytes (refused_by number) e loaded some = omega (arith, ap (λ (r : Loaded). r.refusal) loaded, refused_tabled bytes number e)
+
 pub refused_plays : (j : Judgement) (lent : ℕ) {r : Loaded} → r ≡ loaded_as j → (r.refusal ≡ 0 → ⊥) → unplayed r.refusal ≡ played_in lent j
 refused_plays (accepted f) lent loaded some = absurd (some (ap (λ (r : Loaded). r.refusal) loaded))
 refused_plays (refused_by number) lent loaded some = ap (λ (r : Loaded). unplayed r.refusal) loaded

@@ -8,6 +8,7 @@ use mathlib.Core.Bool.{Bool, true, false, cond}
 use mathlib.Core.List.{List, [], ◌∷◌, map, reverse_aux}
 use lib.ListN.{length, get_or, set, drop, replicate, drop_of_length-le, get_or-eq_default}
 use lib.Seq.{drop-cons, set-get_or}
+use Rattle.std.specs.Prelude.{Option}
 use Rattle.object.specs.Each.{Each}
 use Rattle.bench_file.specs.Layout.{Fields}
 use Rattle.bench_file.specs.Bytes.{InRange}
@@ -16,11 +17,10 @@ use Rattle.object.specs.declared.Request.{Request}
 use Rattle.object.specs.declared.Answer.{Answer}
 use Rattle.object.specs.declared.Answer.TheVariants.{Empty}
 use Rattle.object.specs.declared.Object.{Object}
-use Rattle.object.specs.declared.Applied.{Applied}
-use Rattle.machine.specs.declared.Announced.{Announced}
+use Rattle.object.specs.Apply.{Applied}
 use Rattle.machine.specs.declared.NodeId.{NodeId}
 use Rattle.machine.specs.declared.Node.{Node}
-use Rattle.machine.specs.declared.Effect.{Effect}
+use Rattle.machine.specs.Effect.{Effect}
 use Rattle.machine.specs.declared.Method.{Method}
 use Rattle.machine.specs.declared.Method.TheVariants.{CcSynch, DsmSynch}
 use Rattle.machine.specs.declared.ThreadId.{ThreadId}
@@ -43,16 +43,15 @@ use Rattle.state.specs.Range.{in_range_by, counts_in_range}
 use Rattle.state.specs.Shape.{Shaped}
 use Rattle.step.specs.Entry.{zero_node, served_by, applied_at, plus, wrapped, named, line}
 use Rattle.step.specs.ByMethod.{node_by, event_by, applied_by, effect_by, entered_by, out_by, null_met_by}
-use Rattle.step.proofs.Entering.{Called, made, at_points, is_node, is_event, is_applied, unwritten, remote_is, sums, line_out, line_through, entered_by_lem, fits_wrapped}
+use Rattle.step.proofs.Entering.{Called, made, at_points, is_node, is_event, is_applied, unwritten, remote_is, sums, line_out, line_number, line_through, entered_by_lem, fits_wrapped}
 use Rattle.history.specs.Entries.{Entry, thread_id, Is, how_many, remote_in}
 use Rattle.history.specs.Terms.{no_call, no_turn}
 use Rattle.history.proofs.Told.{is_so}
 use Rattle.claims.specs.Entries.{assigned_by, entry_by, start_by, entries_from, meets_no_null, history_by}
 use Rattle.claims.proofs.Counted.{next_fits}
 use Rattle.kept.specs.declared.Kept.{Kept}
-use Rattle.runner.specs.declared.Played.{Played}
 use Rattle.kept.specs.Kept.{place_of, call_at, kept_of, unkept, after_entry, after_serving}
-use Rattle.runner.specs.Played.{Startable, unplayed, played_from}
+use Rattle.runner.specs.Played.{Startable, Played, unplayed, played_from}
 use Rattle.runner.proofs.Invariant.{Standing, standing_start, swaps_most, Next, sound, line_most_lem, waited_below, begun_now, null_alone, Untested, untested, standing_next, next_of, remote_of_lem}
 use Rattle.runner.proofs.Tabled.{is_tabled}
 use Rattle.runner.proofs.Tables.{Tables, tables_start, place, served, entered_calls, served_calls, order_after, given_after, turns_after, place_below, served_below, tables_next}
@@ -237,8 +236,10 @@ module _ (m : Method) (f : Fields) (bytes : List ℕ) (fits : InRange f) where
       is_found = is_node m s t shape range below called
 
       -- a line that is refused meets null, and so the run is 14
-      pub refused_run : (e.refusal ≡ 0 → ⊥) → unplayed 14 ≡ played_from (start_by m f) f.schedule
-      refused_run q = let met = sym only_null ∙ line_out m s t shape range below called q in rw (null_met met)
+      pub refused_run : (e.refusal ≡ 0 → ⊥) → unplayed e.refusal ≡ played_from (start_by m f) f.schedule
+      refused_run q =
+          let met = sym only_null ∙ line_out m s t shape range below called q in
+          ap unplayed (line_number m s t shape range below called q) ∙ rw (null_met met) refl
 
       -- one that is not meets none
       module _ (done : e.refusal ≡ 0) where
@@ -315,7 +316,7 @@ pub record Serves (s J : State) (answer : Answer) (ob : Applied) : Type 0 where
   pub answers : answer ≡ ob.answer
   pub state : J ≡ with_object s ob.object
 
-module _ (s J : State) (answer : Answer) (ev : Event) (req : Announced) where
+module _ (s J : State) (answer : Answer) (ev : Event) (req : Option Request) where
   pub serves_one : {ob : Applied} → same_event ev Applies ≡ true → ob ≡ served_by s.kind s.capacity s.object req → answer ≡ ob.answer → J ≡ with_object s ob.object
       → Serves s J answer (applied_at ev s.kind s.capacity s.object req)
   serves_one q e a j = rw (q, ← e) (record { answers = a; state = j })
@@ -416,7 +417,7 @@ module _ {bytes : List ℕ} {start : State} {method : Method} {rows : List Row} 
         (looping_on refl refl refl refl inside (running_booked method x.file bytes x.fits x.running inside called done stored sum (rw serves.answers at b)))
 
     -- or the run is refused
-    pub looping_null : (e.refusal ≡ 0 → ⊥) → unplayed 14 ≡ played_from start bytes
+    pub looping_null : (e.refusal ≡ 0 → ⊥) → unplayed e.refusal ≡ played_from start bytes
     looping_null refused = rw (x.entries, x.fresh) (refused_run method x.file bytes x.fits x.running inside called refused)
 
   -- the end of the loop

@@ -10,12 +10,12 @@ use lib.ListN.{length, get_or, set, replicate, length-map, length-set, get_or-re
 use lib.Seq.{get_or-set_same, get_or-set_other, set-get_or}
 use lib.Dec.{eqb}
 use borrow.Author.Tests.{eq-eqb, ne_eqb}
+use Rattle.std.specs.Prelude.{Option, Some}
+use Rattle.object.specs.declared.Answer.{Answer}
 use Rattle.bench_file.specs.Layout.{Fields}
 use Rattle.bench_file.specs.Bytes.{InRange}
 use Rattle.machine.specs.declared.Method.{Method}
 use Rattle.machine.specs.declared.ThreadId.{ThreadId}
-use Rattle.machine.specs.declared.RetVal.{RetVal}
-use Rattle.machine.specs.declared.RetVal.TheVariants.{Answered}
 use Rattle.machine.specs.declared.Event.{Event}
 use Rattle.machine.specs.declared.Event.TheVariants.{Blank, CallBegins, Swaps, TurnBegins, Applies, Returns}
 use Rattle.machine.specs.Sizes.{most_calls, most_nodes}
@@ -238,10 +238,10 @@ module _ (m : Method) (f : Fields) (fits : InRange f) (s : State) (past : List E
 
     -- the serving as it is shown
     abbrev shows : Shown
-    shows = record { ret = Answered (applied_by m s t).answer; server = t; turn = turn_of t past }
+    shows = record { ret = Some (applied_by m s t).answer; server = t; turn = turn_of t past }
 
     shown_so : shown w ≡ shows
-    shown_so = ap₂ (λ (answer : RetVal) (server : ThreadId). record { ret = answer; server = server; turn = turn_of server past }) (now.answers q) (entry_thread m s t)
+    shown_so = ap₂ (λ (answer : Option Answer) (server : ThreadId). record { ret = answer; server = server; turn = turn_of server past }) (now.answers q) (entry_thread m s t)
 
     serving_own : (k : Kept) → k ≡ between w.call
         → after_serving k (is Applies e) (applied_by m s t).answer t (turn_of t past) ≡ kept_of (e ∷ past) w.call

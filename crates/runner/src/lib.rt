@@ -1,47 +1,29 @@
 // A bench file's run from its fresh machine, in place: one local state stepped entry by entry, and what a record needs kept of each call.
 #![tactic(auto)]
 
-ghost use Rattle.std.specs.Prelude.{◌≡◌};
+ghost use Rattle.std.specs.Prelude.{◌≡◌, ◌≤◌};
+ghost use Rattle.refusal.specs.Numbers.{number};
 ghost use Rattle.bench_file.specs.Layout.{judge_of};
-ghost use Rattle.runner.specs.Played.{Startable, played_from, unplayed, played_in};
+ghost use Rattle.runner.specs.Played.{Startable, played_from, played_in, as_played};
 
 use kept::Kept;
 use machine::{Event, Method, ThreadId};
 use object::Answer;
+use refusal::Refusal;
 use state::{Counts, State};
 
-// A run: refusal 0 with the five counts, what is kept of each call, by its place, and the places in Swap order; or a refusal's number, with
-// all counts 0 and nothing kept.
+// A run: the five counts, what is kept of each call, by its place, and the places in Swap order.
 #[derive(Clone, Copy)]
 pub struct Played {
-    pub refusal: u8,
     pub counts: Counts,
     pub kept: [Kept; machine::CALLS],
     pub order: [u16; machine::CALLS],
 }
 
-// A refusal.
-fn unplayed(number: u8) -> Played
-    ensures { result ≡ unplayed number }
-{
-    Played {
-        refusal: number,
-        counts: Counts {
-            records: 0,
-            turns: 0,
-            blanks: 0,
-            spins: 0,
-            remote: 0,
-        },
-        kept: [kept::unkept(); machine::CALLS],
-        order: [0u16; machine::CALLS],
-    }
-}
-
 // The run of a file's schedule from its fresh machine, in place, by the machine's method; 14 where an entry's line meets null.
-fn from_start(schedule: &[u8], start: State) -> Played
+fn from_start(schedule: &[u8], start: State) -> Result<Played, Refusal>
     requires { Startable schedule.now start }
-    ensures { result ≡ played_from start schedule.now }
+    ensures { as_played result ≡ played_from start schedule.now }
 {
     let method = start.method;
     let rows = methods::all_rows(method);
@@ -55,9 +37,8 @@ fn from_start(schedule: &[u8], start: State) -> Played
     let mut order = [0u16; machine::CALLS];
     let mut given = [kept::NO_CALL; machine::NODES];
     let mut turns = [kept::NO_TURN; 16];
-    let mut i = 0usize;
-    while i < schedule.len() {
-        let thread = ThreadId(schedule[i]);
+    for (i, &entry) in schedule.iter().enumerate() {
+        let thread = ThreadId(entry);
         let t = thread.0 as usize;
         // Two kinds of entry change nothing but a count: a spin that makes no remote reference, looked for before all else, and a blank. Where the entry is no
         // such spin, the thread is copied out again: one copy for both is slower.
@@ -68,7 +49,6 @@ fn from_start(schedule: &[u8], start: State) -> Played
             let spun = waited.0 as usize;
             if state.nodes[spun].wait & copies::at_hand(method, state.copies[at], waited, thread) {
                 state.counts.spins += 1;
-                i += 1;
                 continue;
             }
         }
@@ -76,15 +56,14 @@ fn from_start(schedule: &[u8], start: State) -> Played
         let line = machine::line_run(named);
         let row = rows[line as usize];
         let row_event = row.event;
-        if machine::same_event(row_event, Event::Blank) {
+        if row_event == Event::Blank {
             state.counts.blanks += 1;
-            i += 1;
             continue;
         }
         let pointer = row.node;
         let tail = state.tail;
         let tmp = named.tmp;
-        let points = machine::pointed(pointer, named.own, named.cur, tmp, named.my, named.pred);
+        let points = machine::pointed(pointer, named);
         let m = points.0 as usize;
         let mut node = step::zero_node();
         if m < machine::NODES {
@@ -93,7 +72,7 @@ fn from_start(schedule: &[u8], start: State) -> Played
         let req = node.req;
         let next = node.next;
         let event = machine::event_in(row, node, tail.0 == tmp.0);
-        let applies = machine::same_event(event, Event::Applies);
+        let applies = event == Event::Applies;
         let place = step::call_place(thread, named.begun);
         let slot = state.requests[place];
         let request = slot.request;
@@ -102,13 +81,15 @@ fn from_start(schedule: &[u8], start: State) -> Played
         if applies {
             let object = state.object;
             let applied = step::served_by(kind, capacity, object, req);
-            let object_after = applied.object;
-            answer = applied.answer;
+            let (given, object_after) = applied.unwrap_or((Answer::Empty, object));
+            answer = given;
             state.object = object_after;
         }
         // No line of CC-Synch is refused in a run; one of DSM-Synch is where it meets null.
         let effect = match method {
-            Method::CcSynch => cc_synch::executed(line, named, node, tail, h, request, answer),
+            Method::CcSynch => {
+                Ok(cc_synch::executed(line, named, node, tail, h, request, answer))
+            }
             Method::DsmSynch => {
                 let b = next.0 as usize;
                 let mut behind = step::zero_node();
@@ -118,9 +99,7 @@ fn from_start(schedule: &[u8], start: State) -> Played
                 dsm_synch::run_line(thread, named, node, behind, tail, h, request, answer)
             }
         };
-        if effect.refusal != 0 {
-            return unplayed(14);
-        }
+        let done = effect?;
         // The row's accesses are read here, where alone they are needed.
         let accesses = rows[line as usize];
         let remote = copies::refer_all(
@@ -135,19 +114,16 @@ fn from_start(schedule: &[u8], start: State) -> Played
         let more = step::more_of(event, remote);
         let written = machine::written(accesses, points, next);
         let w = written.0 as usize;
-        let thread_after = effect.thread;
-        let node_after = effect.node;
-        let tail_after = effect.tail;
         let counts_after = step::plus(counts, more);
-        state.threads[t] = thread_after;
+        state.threads[t] = done.thread;
         if machine::writes_any(accesses) {
             if w < machine::NODES {
-                state.nodes[w] = node_after;
+                state.nodes[w] = done.node;
             }
         }
-        state.tail = tail_after;
+        state.tail = done.tail;
         state.counts = counts_after;
-        let call = step::call_place(thread, thread_after.begun);
+        let call = step::call_place(thread, done.thread.begun);
         let mine = kept[call];
         kept[call] = kept::after_entry(mine, event, remote, i as u32);
         if applies {
@@ -160,29 +136,50 @@ fn from_start(schedule: &[u8], start: State) -> Played
         kept::note_entry(
             &mut turns, &mut given, &mut order, event, thread, assigned, counts, call,
         );
-        i += 1;
     }
-    let counts = state.counts;
-    Played {
-        refusal: 0,
-        counts,
+    Ok(Played {
+        counts: state.counts,
         kept,
         order,
+    })
+}
+
+// The refusal of a number, until the loader gives it.
+fn refusal_of(of: u8) -> Refusal
+    requires { (1 ≤ of) × (of ≤ 16) }
+    ensures { number result ≡ of }
+{
+    match of {
+        1 => Refusal::CutOff,
+        2 => Refusal::Mark,
+        3 => Refusal::Version,
+        4 => Refusal::Object,
+        5 => Refusal::Threads,
+        6 => Refusal::Bound,
+        7 => Refusal::Capacity,
+        8 => Refusal::Count,
+        9 => Refusal::Request,
+        10 => Refusal::ScheduleLength,
+        11 => Refusal::Entry,
+        12 => Refusal::Trailing,
+        13 => Refusal::Buffer,
+        14 => Refusal::OutOfRange,
+        15 => Refusal::Method,
+        _ => Refusal::Conversion,
     }
 }
 
 // The run of any bytes as a bench file, with so many bytes lent for its records: those of a record for each request in the file, performed or not, else 13.
-pub fn play(file: &[u8], lent: usize) -> Played
-    ensures { result ≡ played_in lent (judge_of file.now) }
+pub fn play(file: &[u8], lent: usize) -> Result<Played, Refusal>
+    ensures { as_played result ≡ played_in lent (judge_of file.now) }
 {
     let loaded = loader::load(file);
     if loaded.refusal != 0 {
-        return unplayed(loaded.refusal);
+        return Err(refusal_of(loaded.refusal));
     }
     if lent < kept::RECORD_LENGTH * loaded.requests {
-        return unplayed(13);
+        return Err(Refusal::Buffer);
     }
-    let start = loaded.state;
     let first = file.len() - loaded.entries;
-    from_start(&file[first..], start)
+    from_start(&file[first..], loaded.state)
 }

@@ -5,6 +5,7 @@ use native.Mathlib.Omega.{arith}
 use mathlib.Core.Path.{◌≡◌}
 use mathlib.Core.Bool.{true, false, not-eq-not, and-eq-true_iff}
 use lib.ListN.{get_or}
+use Rattle.std.specs.Prelude.{Some}
 use Rattle.object.specs.declared.Kind.{Kind}
 use Rattle.object.specs.declared.Kind.TheVariants.{Counter}
 use Rattle.object.specs.declared.Answer.{Answer}
@@ -13,7 +14,6 @@ use Rattle.object.specs.Paper.{answer_mark}
 use Rattle.object.proofs.Counting.{others_in_range}
 use Rattle.object.proofs.Within.{within_range}
 use Rattle.machine.specs.declared.Method.{Method}
-use Rattle.machine.specs.declared.RetVal.TheVariants.{Answered}
 use Rattle.machine.specs.declared.Node.{Node}
 use Rattle.machine.specs.Fields.{with_ret}
 use Rattle.machine.specs.Methods.{last_node}
@@ -38,7 +38,7 @@ module _ (m : Method) (s : State) (shaped : Shaped s) (i : ℕ) (used : i ≤ la
       (first_at (node_in_range s.kind s.capacity (last_node m s.n)) (last_node m s.n + 1) s.nodes i facts.nodes (omega arith)
       (omega (arith, nodes_there m s facts, shaped.nodes)) none)
 
-  module _ (count : ℕ) (in_ret : (get_or s.nodes i none).ret ≡ Answered (Done count)) where
+  module _ (count : ℕ) (in_ret : (get_or s.nodes i none).ret ≡ Some (Done count)) where
     count_in_range : in_range_by m s ≡ true → (1 ≤ count) × (count ≤ s.capacity)
     count_in_range range = (within_range 1 count s.capacity).0 (rw in_ret at (node_at range).ret)
 

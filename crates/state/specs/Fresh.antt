@@ -1,12 +1,10 @@
 -- The fresh machine of document 01, and of document 02, No. 6: all threads idle, no request begun, no copies, the object empty or 0, all counts 0.
-use Rattle.std.specs.Prelude.{ℕ, ◌+◌, false, List, [], ◌∷◌, replicate}
+use Rattle.std.specs.Prelude.{ℕ, ◌+◌, false, List, [], ◌∷◌, replicate, None}
 use Rattle.object.specs.declared.Kind.{Kind}
 use Rattle.object.specs.Apply.{fresh_object}
 use Rattle.machine.specs.declared.Method.{Method}
 use Rattle.machine.specs.declared.Method.TheVariants.{CcSynch, DsmSynch}
 use Rattle.machine.specs.declared.NodeId.{NodeId}
-use Rattle.machine.specs.declared.Announced.TheVariants.{NoRequest}
-use Rattle.machine.specs.declared.RetVal.TheVariants.{NoAnswer}
 use Rattle.machine.specs.declared.Node.{Node}
 use Rattle.machine.specs.declared.Thread.{Thread}
 use Rattle.machine.specs.Fields.{null}
@@ -16,7 +14,7 @@ use Rattle.state.specs.declared.State.{State}
 
 -- next is null, wait and completed are false, req and ret are empty
 abbrev pub fresh_node : Node
-fresh_node = record { req = NoRequest; ret = NoAnswer; wait = false; completed = false; next = null }
+fresh_node = record { req = None; ret = None; wait = false; completed = false; next = null }
 
 -- thread i is idle and has begun no request; in CC-Synch it starts with node i + 1, in DSM-Synch with toggle 0
 abbrev pub fresh_thread : ℕ → ℕ → Thread

@@ -1,6 +1,8 @@
 -- The ranges of a state, number by number: document 01, 'A single step judges 14 ..', and document 02, No. 3 and, by the method, No. 6. What lies past n, the
 -- method's last node, a thread's count or the items held, and what only the other method uses, is not judged.
-use Rattle.std.specs.Prelude.{ℕ, ◌+◌, ◌*◌, ◌^◌, Bool, true, false, ◌&&◌, ◌||◌, List, [], ◌∷◌, take, drop, leb, ltb, eqb}
+use Rattle.std.specs.Prelude.{ℕ, ◌+◌, ◌*◌, ◌^◌, Bool, true, false, ◌&&◌, ◌||◌, List, [], ◌∷◌, take, drop, leb, ltb, eqb, Option, Some, None}
+use Rattle.object.specs.declared.Request.{Request}
+use Rattle.object.specs.declared.Answer.{Answer}
 use Rattle.object.specs.declared.Kind.{Kind}
 use Rattle.object.specs.Each.{every}
 use Rattle.object.specs.Paper.{within, answer_in_range}
@@ -8,10 +10,6 @@ use Rattle.object.specs.Apply.{held_in_range, knows}
 use Rattle.machine.specs.declared.Method.{Method}
 use Rattle.machine.specs.declared.Method.TheVariants.{CcSynch, DsmSynch}
 use Rattle.machine.specs.declared.NodeId.{NodeId}
-use Rattle.machine.specs.declared.Announced.{Announced}
-use Rattle.machine.specs.declared.Announced.TheVariants.{NoRequest, Asked}
-use Rattle.machine.specs.declared.RetVal.{RetVal}
-use Rattle.machine.specs.declared.RetVal.TheVariants.{NoAnswer, Answered}
 use Rattle.machine.specs.declared.Node.{Node}
 use Rattle.machine.specs.declared.Thread.{Thread}
 use Rattle.machine.specs.Fields.{is_null}
@@ -57,14 +55,14 @@ abbrev pub thread_in_range : Method → ℕ → ℕ → Thread → Bool
 thread_in_range m last h th = requests_in_range th && line_in_range (last_line m) th.line && pointers_in_range m last th && leb th.served h
 
 -- req is empty, or a request that the object knows
-abbrev pub req_in_range : Kind → Announced → Bool
-req_in_range kind NoRequest = true
-req_in_range kind (Asked request) = knows kind request
+abbrev pub req_in_range : Kind → Option Request → Bool
+req_in_range kind None = true
+req_in_range kind (Some request) = knows kind request
 
 -- ret is empty, or an answer in range for the capacity; the counter's is 0, so that no done is in range there
-abbrev pub ret_in_range : ℕ → RetVal → Bool
-ret_in_range capacity NoAnswer = true
-ret_in_range capacity (Answered answer) = answer_in_range capacity answer
+abbrev pub ret_in_range : ℕ → Option Answer → Bool
+ret_in_range capacity None = true
+ret_in_range capacity (Some answer) = answer_in_range capacity answer
 
 abbrev pub node_in_range : Kind → ℕ → ℕ → Node → Bool
 node_in_range kind capacity last x = req_in_range kind x.req && ret_in_range capacity x.ret && pointer_in_range last true x.next

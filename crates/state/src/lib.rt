@@ -1,13 +1,13 @@
 // The state of a single step: the machine, the requests, the copies, the object and the counts; and whether the numbers that its method uses are in range.
 #![tactic(auto)]
 
-ghost use Rattle.std.specs.Prelude.{◌≡◌, ◌+◌, ◌≤◌, ◌<◌, take};
+ghost use Rattle.std.specs.Prelude.{◌≡◌, ◌≤◌, ◌<◌, length, take};
 ghost use Rattle.object.specs.Each.{every};
 ghost use Rattle.machine.specs.Methods.{last_node, tail_nullable};
-ghost use Rattle.state.specs.Range.{pointer_in_range, line_in_range, requests_in_range, cc_pointers_in_range, dsm_pointers_in_range, pointers_in_range, thread_in_range, req_in_range, ret_in_range, node_in_range, slot_in_range, row_of_thread, rows_in_range, head_in_range, in_range};
+ghost use Rattle.state.specs.Range.{pointer_in_range, line_in_range, requests_in_range, cc_pointers_in_range, dsm_pointers_in_range, pointers_in_range, thread_in_range, req_in_range, ret_in_range, node_in_range, slot_in_range, rows_in_range, head_in_range, in_range};
 
-use machine::{Announced, Method, Node, NodeId, RetVal, Thread};
-use object::{Kind, Object, Request};
+use machine::{Method, Node, NodeId, Thread};
+use object::{Answer, Kind, Object, Request};
 
 // One place of the rows of requests.
 #[derive(Clone, Copy)]
@@ -56,24 +56,19 @@ fn last_node(method: Method, n: u8) -> u8
 fn tail_nullable(method: Method) -> bool
     ensures { result ≡ tail_nullable method }
 {
-    match method {
-        Method::CcSynch => false,
-        Method::DsmSynch => true,
-    }
+    method == Method::DsmSynch
 }
 
 fn pointer_in_range(last: u8, nullable: bool, node: NodeId) -> bool
     ensures { result ≡ pointer_in_range last nullable node }
 {
-    let null = machine::is_null(node);
-    (node.0 <= last) | null & nullable
+    (node.0 <= last) | machine::is_null(node) & nullable
 }
 
 fn line_in_range(last: u8, line: u8) -> bool
     ensures { result ≡ line_in_range last line }
 {
-    let printed = object::between(2, line, last);
-    (line == 0) | printed
+    (line == 0) | object::between(2, line, last)
 }
 
 fn requests_in_range(thread: Thread) -> bool
@@ -88,28 +83,19 @@ fn cc_pointers_in_range(last: u8, thread: Thread) -> bool
     ensures { result ≡ cc_pointers_in_range last thread }
 {
     let line = thread.line;
-    let own = thread.own;
-    let cur = thread.cur;
-    let tmp = thread.tmp;
-    let tmpnext = thread.tmpnext;
-    let own_fits = pointer_in_range(last, false, own);
-    let cur_fits = pointer_in_range(last, line < 6, cur);
-    let tmp_fits = pointer_in_range(last, (line < 13) | (line == 21), tmp);
-    let tmpnext_fits = pointer_in_range(last, true, tmpnext);
-    own_fits & cur_fits & tmp_fits & tmpnext_fits
+    pointer_in_range(last, false, thread.own)
+        & pointer_in_range(last, line < 6, thread.cur)
+        & pointer_in_range(last, (line < 13) | (line == 21), thread.tmp)
+        & pointer_in_range(last, true, thread.tmpnext)
 }
 
 fn dsm_pointers_in_range(last: u8, thread: Thread) -> bool
     ensures { result ≡ dsm_pointers_in_range last thread }
 {
-    let line = thread.line;
-    let my = thread.my;
-    let pred = thread.pred;
-    let tmp = thread.tmp;
-    let my_fits = pointer_in_range(last, line < 3, my);
-    let pred_fits = pointer_in_range(last, true, pred);
-    let tmp_fits = pointer_in_range(last, line < 14, tmp);
-    (thread.toggle <= 1) & my_fits & pred_fits & tmp_fits
+    (thread.toggle <= 1)
+        & pointer_in_range(last, thread.line < 3, thread.my)
+        & pointer_in_range(last, true, thread.pred)
+        & pointer_in_range(last, thread.line < 14, thread.tmp)
 }
 
 fn pointers_in_range(method: Method, last: u8, thread: Thread) -> bool
@@ -124,140 +110,98 @@ fn pointers_in_range(method: Method, last: u8, thread: Thread) -> bool
 fn thread_in_range(method: Method, last: u8, h: u8, thread: Thread) -> bool
     ensures { result ≡ thread_in_range method last h thread }
 {
-    let requests_fit = requests_in_range(thread);
-    let last_line = machine::last_line(method);
-    let line_fits = line_in_range(last_line, thread.line);
-    let pointers_fit = pointers_in_range(method, last, thread);
-    requests_fit & line_fits & pointers_fit & (thread.served <= h)
+    requests_in_range(thread)
+        & line_in_range(machine::last_line(method), thread.line)
+        & pointers_in_range(method, last, thread)
+        & (thread.served <= h)
 }
 
-fn req_in_range(kind: Kind, req: Announced) -> bool
+fn req_in_range(kind: Kind, req: Option<Request>) -> bool
     ensures { result ≡ req_in_range kind req }
 {
     match req {
-        Announced::NoRequest => true,
-        Announced::Asked(request) => object::knows(kind, request),
+        None => true,
+        Some(request) => object::knows(kind, request),
     }
 }
 
-fn ret_in_range(capacity: u8, ret: RetVal) -> bool
+fn ret_in_range(capacity: u8, ret: Option<Answer>) -> bool
     ensures { result ≡ ret_in_range capacity ret }
 {
     match ret {
-        RetVal::NoAnswer => true,
-        RetVal::Answered(answer) => object::answer_in_range(capacity, answer),
+        None => true,
+        Some(answer) => object::answer_in_range(capacity, answer),
     }
 }
 
 fn node_in_range(kind: Kind, capacity: u8, last: u8, node: Node) -> bool
     ensures { result ≡ node_in_range kind capacity last node }
 {
-    let req = node.req;
-    let ret = node.ret;
-    let next = node.next;
-    let req_fits = req_in_range(kind, req);
-    let ret_fits = ret_in_range(capacity, ret);
-    let next_fits = pointer_in_range(last, true, next);
-    req_fits & ret_fits & next_fits
+    req_in_range(kind, node.req)
+        & ret_in_range(capacity, node.ret)
+        & pointer_in_range(last, true, node.next)
 }
 
-fn threads_in_range(method: Method, last: u8, h: u8, n: u8, threads: [Thread; 16]) -> bool
-    requires { n ≤ 16 }
-    ensures { result ≡ every (thread_in_range method last h) (take n threads) }
+fn threads_in_range(method: Method, last: u8, h: u8, threads: &[Thread]) -> bool
+    ensures { result ≡ every (thread_in_range method last h) threads.now }
 {
-    let count = n as usize;
-    let mut i: usize = 0;
-    while i < count {
-        let thread = threads[i];
-        if !thread_in_range(method, last, h, thread) {
+    threads
+        .iter()
+        .all(|thread| thread_in_range(method, last, h, *thread))
+}
+
+fn nodes_in_range(kind: Kind, capacity: u8, last: u8, nodes: &[Node]) -> bool
+    ensures { result ≡ every (node_in_range kind capacity last) nodes.now }
+{
+    nodes
+        .iter()
+        .all(|node| node_in_range(kind, capacity, last, *node))
+}
+
+// The row of one thread: the first places, as many as its count.
+fn row_in_range(kind: Kind, requests: &[Slot], count: u8) -> bool
+    ensures { result ≡ every (slot_in_range kind) (take count requests.now) }
+{
+    requests
+        .iter()
+        .take(count as usize)
+        .all(|slot| object::knows(kind, slot.request))
+}
+
+fn rows_in_range(kind: Kind, requests: &[Slot; machine::CALLS], threads: &[Thread]) -> bool
+    requires { length threads.now ≤ 16 }
+    ensures { result ≡ rows_in_range kind requests.now 0 threads.now }
+{
+    for (i, thread) in threads.iter().enumerate() {
+        if !row_in_range(kind, &requests[16 * i..], thread.count) {
             return false;
         }
-        i += 1;
     }
     true
 }
 
-fn nodes_in_range(kind: Kind, capacity: u8, last: u8, nodes: [Node; machine::NODES]) -> bool
-    requires { last ≤ 31 }
-    ensures { result ≡ every (node_in_range kind capacity last) (take (last + 1) nodes) }
+fn head_in_range(state: &State) -> bool
+    ensures { result ≡ head_in_range state.now }
 {
-    let count = (last as usize) + 1;
-    let mut i: usize = 0;
-    while i < count {
-        let node = nodes[i];
-        if !node_in_range(kind, capacity, last, node) {
-            return false;
-        }
-        i += 1;
-    }
-    true
-}
-
-// The row of one thread.
-fn row_in_range(kind: Kind, requests: [Slot; machine::CALLS], thread: usize, count: u8) -> bool
-    requires { thread ≤ 15 }
-    ensures { result ≡ every (slot_in_range kind) (row_of_thread requests thread count) }
-{
-    let first = 16 * thread;
-    let end = first + (count as usize);
-    let mut i = first;
-    while (i < end) & (i < machine::CALLS) {
-        let slot = requests[i];
-        let request = slot.request;
-        if !object::knows(kind, request) {
-            return false;
-        }
-        i += 1;
-    }
-    true
-}
-
-fn rows_in_range(kind: Kind, requests: [Slot; machine::CALLS], n: u8, threads: [Thread; 16]) -> bool
-    requires { n ≤ 16 }
-    ensures { result ≡ rows_in_range kind requests 0 (take n threads) }
-{
-    let count = n as usize;
-    let mut i: usize = 0;
-    while i < count {
-        let thread = threads[i];
-        if !row_in_range(kind, requests, i, thread.count) {
-            return false;
-        }
-        i += 1;
-    }
-    true
-}
-
-fn head_in_range(state: State) -> bool
-    ensures { result ≡ head_in_range state }
-{
-    let object = state.object;
-    let kind = state.kind;
-    let n_fits = object::between(1, state.n, 16);
-    let h_fits = object::between(1, state.h, 255);
-    let held_fits = object::held_in_range(kind, state.capacity, object.held);
-    n_fits & h_fits & held_fits
+    object::between(1, state.n, 16)
+        & object::between(1, state.h, 255)
+        & object::held_in_range(state.kind, state.capacity, state.object.held)
 }
 
 // Whether each number of a state that is judged is in its range.
-pub fn in_range(state: State) -> bool
-    ensures { result ≡ in_range state }
+pub fn in_range(state: &State) -> bool
+    ensures { result ≡ in_range state.now }
 {
     if !head_in_range(state) {
         return false;
     }
     let method = state.method;
-    let n = state.n;
     let kind = state.kind;
-    let tail = state.tail;
-    let threads = state.threads;
-    let nodes = state.nodes;
-    let requests = state.requests;
-    let last = last_node(method, n);
-    let nullable = tail_nullable(method);
-    let tail_fits = pointer_in_range(last, nullable, tail);
-    let threads_fit = threads_in_range(method, last, state.h, n, threads);
-    let nodes_fit = nodes_in_range(kind, state.capacity, last, nodes);
-    let rows_fit = rows_in_range(kind, requests, n, threads);
-    tail_fits & threads_fit & nodes_fit & rows_fit
+    let last = last_node(method, state.n);
+    let threads = &state.threads[..state.n as usize];
+    let nodes = &state.nodes[..last as usize + 1];
+    pointer_in_range(last, tail_nullable(method), state.tail)
+        & threads_in_range(method, last, state.h, threads)
+        & nodes_in_range(kind, state.capacity, last, nodes)
+        & rows_in_range(kind, &state.requests, threads)
 }

@@ -1,6 +1,6 @@
 -- Lists, rows of requests, copies, objects and lines that are the same as far as n, the method's last node, a thread's count and the items held go: they are
 -- judged alike and are the same so far after an entry. Assumes what the modules' parameters say.
-use Rattle.std.proofs.Common.{◌≡◌, ℕ, zero, suc, ◌+◌, ◌<◌, ◌≤◌, Bool, true, false, cond, not, ◌&&◌, ◌||◌, T, eqb, ltb, List, [], ◌∷◌, length, get_or, take, set, sym, refl, ap, ◌∙◌, subst, ap₂, add-zero, arith, length-set, get_or-take}
+use Rattle.std.proofs.Common.{◌≡◌, ℕ, zero, suc, ◌+◌, ◌<◌, ◌≤◌, Bool, true, false, cond, not, ◌&&◌, ◌||◌, T, eqb, ltb, List, [], ◌∷◌, length, get_or, take, set, sym, refl, ap, ◌∙◌, subst, ap₂, add-zero, arith, length-set, get_or-take, Option, Some, None}
 use native.Mathlib.Decide.{ℕ_discrete}
 use lib.ListN.{get_or-eq_default}
 use lib.Seq.{take-set-lt, set_out}
@@ -17,8 +17,6 @@ use Rattle.object.proofs.Plainly.{HoldSame, AnswerSame, same_answered}
 use Rattle.machine.specs.declared.Method.{Method}
 use Rattle.machine.specs.declared.Method.TheVariants.{CcSynch, DsmSynch}
 use Rattle.machine.specs.declared.NodeId.{NodeId}
-use Rattle.machine.specs.declared.Announced.{Announced}
-use Rattle.machine.specs.declared.Announced.TheVariants.{NoRequest, Asked}
 use Rattle.machine.specs.declared.Node.{Node}
 use Rattle.machine.specs.declared.Thread.{Thread}
 use Rattle.machine.specs.declared.SharedAccess.{SharedAccess}
@@ -127,12 +125,12 @@ same_referred_by DsmSynch n t below few accesses near c c' full full' same =
     (owner_decides n t accesses c c', rw (copies_stay n t c accesses, copies_stay n t c' accesses) same)
 
 -- whether or not a req is served, objects that hold the same answer the same
-pub same_served : (kind : Kind) (capacity : ℕ) (ob ob' : Object) (serves : Bool) (req : Announced) → length ob.items ≡ 64 → length ob'.items ≡ 64
+pub same_served : (kind : Kind) (capacity : ℕ) (ob ob' : Object) (serves : Bool) (req : Option Request) → length ob.items ≡ 64 → length ob'.items ≡ 64
     → T (object_in_range kind capacity ob) → req_in_range kind req ≡ true → HoldSame ob ob'
     → AnswerSame (cond serves (served_by kind capacity ob req) (answered Empty ob)) (cond serves (served_by kind capacity ob' req) (answered Empty ob'))
 same_served kind capacity ob ob' false req long long' fits known same = record { answer = refl; object = same }
-same_served kind capacity ob ob' true NoRequest long long' fits known same = record { answer = refl; object = same }
-same_served kind capacity ob ob' true (Asked request) long long' fits known same =
+same_served kind capacity ob ob' true None long long' fits known same = record { answer = refl; object = same }
+same_served kind capacity ob ob' true (Some request) long long' fits known same =
     same_answered kind capacity ob ob' request long long' fits (rw known tt) same
 
 -- a thread that has begun no request runs line 1 or gives a blank, which use none

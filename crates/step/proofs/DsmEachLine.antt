@@ -13,7 +13,7 @@ use Rattle.machine.specs.declared.Method.TheVariants.{DsmSynch}
 use Rattle.machine.specs.declared.NodeId.{NodeId}
 use Rattle.machine.specs.declared.Node.{Node}
 use Rattle.machine.specs.declared.Thread.{Thread}
-use Rattle.machine.specs.declared.Effect.{Effect}
+use Rattle.machine.specs.Effect.{Effect}
 use Rattle.machine.specs.Accesses.{to_null}
 use Rattle.machine.specs.Fields.{is_null}
 use Rattle.machine.specs.Lines.{stands_at}

@@ -6,7 +6,7 @@ use borrow.Author.Tests.{lt-leb}
 use Rattle.object.specs.declared.Object.{Object}
 use Rattle.object.specs.declared.Request.{Request}
 use Rattle.object.specs.declared.Answer.{Answer}
-use Rattle.object.specs.declared.Applied.{Applied}
+use Rattle.object.specs.Apply.{Applied}
 use Rattle.machine.specs.declared.Method.{Method}
 use Rattle.machine.specs.declared.Method.TheVariants.{CcSynch, DsmSynch}
 use Rattle.machine.specs.declared.ThreadId.{ThreadId}
@@ -15,7 +15,7 @@ use Rattle.machine.specs.declared.Node.{Node}
 use Rattle.machine.specs.declared.Thread.{Thread}
 use Rattle.machine.specs.declared.Event.{Event}
 use Rattle.machine.specs.declared.Row.{Row}
-use Rattle.machine.specs.declared.Effect.{Effect}
+use Rattle.machine.specs.Effect.{Effect}
 use Rattle.machine.specs.Accesses.{pointed, accesses_of, writes_any, written_of}
 use Rattle.machine.specs.Events.{event_found}
 use Rattle.machine.specs.Methods.{last_node}
@@ -28,12 +28,11 @@ use Rattle.state.specs.declared.State.{State}
 use Rattle.state.specs.Range.{in_range_by, counts_in_range}
 use Rattle.state.specs.Shape.{Shaped}
 use Rattle.state.proofs.RangeFacts.{ThreadFits, state_fits, counts_iff}
-use Rattle.step.specs.declared.Stepped.{Stepped}
 use Rattle.step.specs.Entry.{zero_node, zero_slot, applied_at, more_of, plus, wrapped, named, line, request}
 use Rattle.step.specs.ByMethod.{points_to_by, node_by, behind_by, written_by, event_by, applied_by, effect_by, accesses_by, references_by, counts_after_by, entered_by, out_by}
-use Rattle.step.specs.Step.{refused, outcome_by, step_of}
+use Rattle.step.specs.Step.{Stepped, refused, outcome_by, step_of}
 use Rattle.step.proofs.Outcome.{thread_fits, begun_few, goes_through_exactly}
-use Rattle.step.proofs.Rows.{row_points, row_accesses, row_writes_lem, row_event, HasNodes, row_leaves, goes_through, refused_out}
+use Rattle.step.proofs.Rows.{row_points, row_accesses, row_writes_lem, row_event, HasNodes, row_leaves, goes_through, refused_out, refused_14}
 
 -- counts that fit do not wrap
 pub fits_wrapped : (c : Counts) → counts_in_range c ≡ true → wrapped c ≡ c
@@ -160,8 +159,13 @@ module _ (m : Method) (s : State) (t : ThreadId) (shape : Shaped s) (fits : in_r
     line_through h = let g = through (rw is_answer at h) in (g.0, is_answer ∙ g.1)
 
     -- the line is refused
-    pub line_refused : (e.refusal ≡ 0 → ⊥) → refused 14 s ≡ outcome_by m s t
-    line_refused h = sym (by_outcome (line_out h) refl)
+    pub line_number : (e.refusal ≡ 0 → ⊥) → e.refusal ≡ 14
+    line_number h =
+        ap (λ (e : Effect). e.refusal) is_answer
+        ∙ refused_14 t.0 (named s t) (node_by m s t) (behind_by m s t) s.tail s.h (request s t) (applied_by m s t).answer m (rw is_answer at h)
+
+    pub line_refused : (e.refusal ≡ 0 → ⊥) → refused e.refusal s ≡ outcome_by m s t
+    line_refused h = ap (λ (k : ℕ). refused k s) (line_number h) ∙ sym (by_outcome (line_out h) refl)
 
     -- a count would pass 32 bits
     pub counts_refused : e.refusal ≡ 0 → counts_in_range (plus s.counts more) ≡ false → refused 14 s ≡ outcome_by m s t
@@ -173,12 +177,12 @@ module _ (m : Method) (s : State) (t : ThreadId) (shape : Shaped s) (fits : in_r
     entered_by_lem done en ep = rw (en, ep, sums, done, copies_are, is_written, is_applied) refl
 
     -- the entry goes through
-    pub accepted : {nodes : List Node} {counts : Counts} → e.refusal ≡ 0 → counts_in_range (plus s.counts more) ≡ true
-        → nodes ≡ set s.nodes w.0 e.node → counts ≡ wrapped (plus s.counts more)
-        → ◌≡◌ {A = Stepped} (record { refusal = 0; state = made s t nodes ob.object e copies counts }) (outcome_by m s t)
-    accepted h f en ep =
+    pub accepted : {nodes : List Node} {counts : Counts} {object : Object} → e.refusal ≡ 0 → counts_in_range (plus s.counts more) ≡ true
+        → object ≡ ob.object → nodes ≡ set s.nodes w.0 e.node → counts ≡ plus s.counts more
+        → ◌≡◌ {A = Stepped} (record { refusal = 0; state = made s t nodes object e copies counts }) (outcome_by m s t)
+    accepted h f eo en ep =
         let g = through (rw is_answer at h) in
-        rw (entered_by_lem (is_answer ∙ g.1) en (ep ∙ fits_wrapped _ f)) (sym (by_outcome g.0 (ap counts_in_range (sym sums) ∙ f)))
+        rw (eo, entered_by_lem (is_answer ∙ g.1) en ep) (sym (by_outcome g.0 (ap counts_in_range (sym sums) ∙ f)))
 
 -- the order of the step: the state, the entry, the outcome
 module _ (s : State) (t : ThreadId) where

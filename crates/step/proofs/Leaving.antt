@@ -7,7 +7,7 @@ use Rattle.machine.specs.declared.Method.{Method}
 use Rattle.machine.specs.declared.NodeId.{NodeId}
 use Rattle.machine.specs.declared.Node.{Node}
 use Rattle.machine.specs.declared.Thread.{Thread}
-use Rattle.machine.specs.declared.Effect.{Effect}
+use Rattle.machine.specs.Effect.{Effect}
 use Rattle.machine.specs.Methods.{tail_nullable}
 use Rattle.machine.specs.Threads.{goes, keeping, writing}
 use Rattle.state.specs.Range.{thread_in_range}

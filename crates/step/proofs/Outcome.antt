@@ -1,6 +1,6 @@
 -- A single step, by either method, goes through exactly if its line takes no number out, misses nothing that it uses and leaves the counts in 32 bits. Assumes a
 -- state of full arrays, in range, and a thread below n.
-use Rattle.std.proofs.Common.{◌≡◌, ℕ, ◌+◌, ◌-◌, ◌<◌, ◌≤◌, Bool, true, false, cond, not, ◌&&◌, length, get_or, take, set, refl, ap, ◌∙◌, subst, arith}
+use Rattle.std.proofs.Common.{◌≡◌, ℕ, ◌+◌, ◌-◌, ◌<◌, ◌≤◌, Bool, true, false, cond, not, ◌&&◌, length, get_or, take, set, refl, ap, ◌∙◌, subst, arith, Option, Some, None}
 use mathlib.Core.Bool.{and-true, and_assoc, and-eq-true_iff}
 use lib.ListN.{get_or-eq_default}
 use lib.Seq.{set_out}
@@ -10,17 +10,14 @@ use Rattle.object.specs.declared.Request.{Request}
 use Rattle.object.specs.declared.Object.{Object}
 use Rattle.object.specs.declared.Answer.{Answer}
 use Rattle.object.specs.declared.Answer.TheVariants.{Empty}
-use Rattle.object.specs.declared.Applied.{Applied}
 use Rattle.object.specs.Paper.{within, answer_in_range}
-use Rattle.object.specs.Apply.{knows, held_in_range, answered, apply_of}
+use Rattle.object.specs.Apply.{Applied, knows, held_in_range, answered, apply_of}
 use Rattle.object.proofs.Plainly.{applies_plainly}
 use Rattle.object.specs.Each.{every}
 use Rattle.machine.specs.declared.Method.{Method}
 use Rattle.machine.specs.declared.Method.TheVariants.{CcSynch}
 use Rattle.machine.specs.declared.ThreadId.{ThreadId}
 use Rattle.machine.specs.declared.Node.{Node}
-use Rattle.machine.specs.declared.Announced.{Announced}
-use Rattle.machine.specs.declared.Announced.TheVariants.{NoRequest, Asked}
 use Rattle.machine.specs.declared.Event.{Event}
 use Rattle.machine.specs.declared.Event.TheVariants.{Applies}
 use Rattle.machine.specs.Events.{same_event}
@@ -42,7 +39,7 @@ use Rattle.step.proofs.EachLine.{target_at}
 use Rattle.step.proofs.EitherLine.{some_line, points, writes, leaves_by}
 
 -- what holds where no request is applied, and of each request's answer and the object after it, holds after an entry, whether or not a req is served
-pub applied_keeps : (P : Answer → Object → Type 0) (event : Event) (kind : Kind) (capacity : ℕ) (ob : Object) (req : Announced) → P Empty ob
+pub applied_keeps : (P : Answer → Object → Type 0) (event : Event) (kind : Kind) (capacity : ℕ) (ob : Object) (req : Option Request) → P Empty ob
     → ((request : Request) → P (apply_of kind capacity ob request).answer (apply_of kind capacity ob request).object)
     → P (applied_at event kind capacity ob req).answer (applied_at event kind capacity ob req).object
 applied_keeps P event kind capacity ob req before after = by_test (same_event event Applies) req
@@ -50,10 +47,10 @@ applied_keeps P event kind capacity ob req before after = by_test (same_event ev
     Keeps : Applied → Type 0
     Keeps r = P r.answer r.object
 
-    by_test : (serves : Bool) (req : Announced) → Keeps (cond serves (served_by kind capacity ob req) (answered Empty ob))
+    by_test : (serves : Bool) (req : Option Request) → Keeps (cond serves (served_by kind capacity ob req) (answered Empty ob))
     by_test false req = before
-    by_test true NoRequest = before
-    by_test true (Asked request) = after request
+    by_test true None = before
+    by_test true (Some request) = after request
 
 -- what the parts of a state's range come to where all hold but the threads and the counts
 together : {a b d e v : Bool} (u c z : Bool) → a ≡ true → b ≡ true → d ≡ true → e ≡ true → (not u && c) ≡ v

@@ -15,7 +15,7 @@ use Rattle.machine.specs.declared.Node.{Node}
 use Rattle.machine.specs.declared.Thread.{Thread}
 use Rattle.machine.specs.declared.Event.{Event}
 use Rattle.machine.specs.declared.Event.TheVariants.{Applies}
-use Rattle.machine.specs.declared.Effect.{Effect}
+use Rattle.machine.specs.Effect.{Effect}
 use Rattle.machine.specs.Accesses.{Access, read, write, swap, cas, located}
 use Rattle.machine.specs.Events.{same_event}
 use Rattle.machine.specs.Lines.{line_run}
@@ -30,10 +30,9 @@ use Rattle.state.specs.declared.State.{State}
 use Rattle.state.specs.Range.{counts_in_range, in_range_by}
 use Rattle.state.specs.Shape.{Shaped}
 use Rattle.state.proofs.RangeFacts.{NodeOrNull, there, nowhere, state_fits}
-use Rattle.step.specs.declared.Stepped.{Stepped}
 use Rattle.step.specs.Entry.{zero_thread, zero_node, zero_slot, more_of, plus, named, line, request, row, target}
 use Rattle.step.specs.ByMethod.{line_points, line_writes, line_accesses, line_event, line_out, points_to_by, node_by, behind_by, written_by, event_by, applied_by, effect_by, accesses_by, references_by, counts_after_by, entered_by, out_by}
-use Rattle.step.specs.Step.{refused, goes_through_by, outcome_by, step_by, step_of}
+use Rattle.step.specs.Step.{Stepped, refused, goes_through_by, outcome_by, step_by, step_of}
 use Rattle.step.specs.Past.{copies_from, CopiesKept, of_the_other, PastKept, SameCopies, AgreeWithin, used_thread, used_copies, used_state, Agree}
 use Rattle.step.proofs.Outcome.{applied_keeps, thread_fits, points_in_range, written_in_range, target_in_range, node_fits, leaves, goes_through_exactly}
 use Rattle.step.proofs.Soundness.{either_state}

@@ -76,3 +76,8 @@ module _ (t : ℕ) (th : Thread) (x y : Node) (tail : NodeId) (h : ℕ) (request
   pub refused_out : (m : Method) → HasNodes m t th → ((methods.effect_by m t th x y tail h request answer).refusal ≡ 0 → ⊥) → line_out m th x h (line_run th) ≡ true
   refused_out CcSynch has = CcRefusal.refused_out th x tail h request answer
   refused_out DsmSynch has = DsmRefusal.refused_out t th x y tail h request answer has.0 has.1
+
+  -- and has that number
+  pub refused_14 : (m : Method) → ((methods.effect_by m t th x y tail h request answer).refusal ≡ 0 → ⊥) → (methods.effect_by m t th x y tail h request answer).refusal ≡ 14
+  refused_14 CcSynch = CcRefusal.refused_14 th x tail h request answer
+  refused_14 DsmSynch = DsmRefusal.refused_14 t th x y tail h request answer

@@ -1,11 +1,11 @@
 -- From a state in range every step, refused or not, hands back a state in range, by either method, with arrays as long as they were. Assumes what the module's parameters say.
-use Rattle.std.proofs.Common.{◌≡◌, ℕ, ◌<◌, Bool, true, false, cond, not, leb, List, [], ◌∷◌, length, refl, ◌∙◌, length-set, leb-false}
+use Rattle.std.proofs.Common.{◌≡◌, ℕ, ◌<◌, Bool, true, false, cond, not, leb, List, [], ◌∷◌, length, refl, ◌∙◌, length-set, leb-false, Option}
 use mathlib.Core.Bool.{and-eq-true_iff}
 use Rattle.object.proofs.Plainly.{places_stay}
+use Rattle.object.specs.declared.Request.{Request}
 use Rattle.machine.specs.declared.Method.{Method}
 use Rattle.machine.specs.declared.Method.TheVariants.{CcSynch, DsmSynch}
 use Rattle.machine.specs.declared.ThreadId.{ThreadId}
-use Rattle.machine.specs.declared.Announced.{Announced}
 use Rattle.machine.specs.declared.Event.{Event}
 use Rattle.machine.specs.Accesses.{Access}
 use Rattle.copies.specs.Remote.{copies_after, referred_by}
@@ -22,7 +22,7 @@ locations m n t copies [] = refl
 locations CcSynch n t copies (a ∷ accesses) = locations CcSynch n t (copies_after n t a copies) accesses ∙ length-set copies _ _
 locations DsmSynch n t copies (a ∷ accesses) = locations DsmSynch n t copies accesses
 
-items_kept : (s : State) (event : Event) (req : Announced) → Shaped s → length (applied_at event s.kind s.capacity s.object req).object.items ≡ 64
+items_kept : (s : State) (event : Event) (req : Option Request) → Shaped s → length (applied_at event s.kind s.capacity s.object req).object.items ≡ 64
 items_kept s event req shaped =
     applied_keeps (λ answer ob. length ob.items ≡ 64) event s.kind s.capacity s.object req shaped.items
     (λ request. places_stay s.kind s.capacity s.object request shaped.items)

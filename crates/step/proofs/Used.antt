@@ -13,7 +13,7 @@ use Rattle.machine.specs.declared.NodeId.{NodeId}
 use Rattle.machine.specs.declared.Node.{Node}
 use Rattle.machine.specs.declared.Thread.{Thread}
 use Rattle.machine.specs.declared.Event.{Event}
-use Rattle.machine.specs.declared.Effect.{Effect}
+use Rattle.machine.specs.Effect.{Effect}
 use Rattle.machine.specs.Accesses.{Access, pointed}
 use Rattle.machine.specs.Lines.{line_run}
 use Rattle.machine.specs.Methods.{last_node}
@@ -28,10 +28,9 @@ use Rattle.copies.proofs.References.{copies_stay}
 use Rattle.state.specs.declared.Slot.{Slot}
 use Rattle.state.specs.declared.State.{State}
 use Rattle.state.specs.Range.{thread_in_range, rows_in_range, in_range_by}
-use Rattle.step.specs.declared.Stepped.{Stepped}
 use Rattle.step.specs.Entry.{zero_thread, zero_node, zero_slot, applied_at, named, line, request}
 use Rattle.step.specs.ByMethod.{line_points, line_writes, line_accesses, line_event, line_done, line_misses, points_to_by, node_by, behind_by, written_by, event_by, applied_by, effect_by, accesses_by, references_by, entered_by, misses_by}
-use Rattle.step.specs.Step.{refused, goes_through_by, outcome_by, step_by}
+use Rattle.step.specs.Step.{Stepped, refused, goes_through_by, outcome_by, step_by}
 use Rattle.step.specs.Past.{of_the_other, used_thread, used_copies, used_state}
 use Rattle.step.proofs.Alike.{owner_decides}
 

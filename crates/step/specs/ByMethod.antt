@@ -2,7 +2,7 @@
 use Rattle.std.specs.Prelude.{ℕ, Bool, false, ◌||◌, List, slice_index_or}
 use Rattle.object.specs.declared.Request.{Request}
 use Rattle.object.specs.declared.Answer.{Answer}
-use Rattle.object.specs.declared.Applied.{Applied}
+use Rattle.object.specs.Apply.{Applied}
 use Rattle.machine.specs.declared.Method.{Method}
 use Rattle.machine.specs.declared.Method.TheVariants.{CcSynch, DsmSynch}
 use Rattle.machine.specs.declared.ThreadId.{ThreadId}
@@ -10,7 +10,7 @@ use Rattle.machine.specs.declared.NodeId.{NodeId}
 use Rattle.machine.specs.declared.Node.{Node}
 use Rattle.machine.specs.declared.Thread.{Thread}
 use Rattle.machine.specs.declared.Event.{Event}
-use Rattle.machine.specs.declared.Effect.{Effect}
+use Rattle.machine.specs.Effect.{Effect}
 use Rattle.machine.specs.Accesses.{Access, to_null, pointed}
 use Rattle.cc_lines.specs.Lines as CcLines
 use Rattle.cc_synch.specs.Effect as CcEffect

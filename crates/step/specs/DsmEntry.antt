@@ -1,12 +1,12 @@
 -- What one schedule entry does to a state by DSM-Synch: document 02, No. 6. As Entry.antt has it of CC-Synch.
 use Rattle.std.specs.Prelude.{Bool, List, slice_index_or}
-use Rattle.object.specs.declared.Applied.{Applied}
+use Rattle.object.specs.Apply.{Applied}
 use Rattle.machine.specs.declared.Method.TheVariants.{DsmSynch}
 use Rattle.machine.specs.declared.ThreadId.{ThreadId}
 use Rattle.machine.specs.declared.NodeId.{NodeId}
 use Rattle.machine.specs.declared.Node.{Node}
 use Rattle.machine.specs.declared.Event.{Event}
-use Rattle.machine.specs.declared.Effect.{Effect}
+use Rattle.machine.specs.Effect.{Effect}
 use Rattle.machine.specs.Accesses.{Access}
 use Rattle.dsm_lines.specs.Lines.{Line, line_of, empties, pointed, target, event_in}
 use Rattle.dsm_lines.specs.Lines as lines

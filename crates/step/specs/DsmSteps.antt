@@ -1,5 +1,5 @@
 -- Single steps of DSM-Synch in figures: entries of thread 0, of two threads, with h = 1. Nodes 0 and 1 are its own, 2 and 3 thread 1's; null is 255.
-use Rattle.std.specs.Prelude.{ℕ, Bool, true, false, cond, List, [], ◌∷◌, map, ◌==◌, slice_index, slice_index_or}
+use Rattle.std.specs.Prelude.{ℕ, Bool, true, false, cond, List, [], ◌∷◌, map, ◌==◌, slice_index, slice_index_or, Some, None}
 use Rattle.object.specs.declared.Kind.TheVariants.{Counter}
 use Rattle.object.specs.declared.Request.TheVariants.{Add}
 use Rattle.object.specs.declared.Answer.TheVariants.{Value}
@@ -8,8 +8,6 @@ use Rattle.machine.specs.declared.Method.TheVariants.{DsmSynch}
 use Rattle.machine.specs.declared.Node.{Node}
 use Rattle.machine.specs.declared.Thread.{Thread}
 use Rattle.machine.specs.declared.ThreadId.{ThreadId}
-use Rattle.machine.specs.declared.Announced.TheVariants.{NoRequest, Asked}
-use Rattle.machine.specs.declared.RetVal.TheVariants.{NoAnswer, Answered}
 use Rattle.state.specs.declared.State.{State}
 use Rattle.step.specs.Entry.{one_if, zero_thread}
 use Rattle.step.specs.DsmEntry as dsm
@@ -36,8 +34,8 @@ figures_of th = th.line ∷ th.begun ∷ th.toggle ∷ th.my.0 ∷ th.pred.0 ∷
 -- a node by whether it waits and its next; one that has been used has a req and a ret
 abbrev node_by : Bool → ℕ × ℕ → Node
 node_by used figures = record {
-  req = cond used (Asked (Add 5)) NoRequest;
-  ret = cond used (Answered (Value 7)) NoAnswer;
+  req = cond used (Some (Add 5)) None;
+  ret = cond used (Some (Value 7)) None;
   wait = (figures.0 == 1);
   completed = false;
   next = record { 0 = figures.1 };

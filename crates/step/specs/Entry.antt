@@ -1,23 +1,19 @@
 -- What one schedule entry does to a state: the thread that it names executes one line. Document 01, 'One entry, one line'.
-use Rattle.std.specs.Prelude.{ℕ, ◌+◌, ◌-◌, ◌*◌, ◌%◌, ◌^◌, Bool, false, cond, List, get_or, slice_index_or, slice_set}
+use Rattle.std.specs.Prelude.{ℕ, ◌+◌, ◌-◌, ◌*◌, ◌%◌, ◌^◌, Bool, false, cond, List, get_or, slice_index_or, slice_set, Option, Some, None}
 use Rattle.object.specs.declared.Kind.{Kind}
 use Rattle.object.specs.declared.Request.{Request}
 use Rattle.object.specs.declared.Request.TheVariants.{Put}
 use Rattle.object.specs.declared.Answer.TheVariants.{Empty}
 use Rattle.object.specs.declared.Object.{Object}
-use Rattle.object.specs.declared.Applied.{Applied}
-use Rattle.object.specs.Apply.{answered, refused_with, apply_of}
+use Rattle.object.specs.Apply.{Applied, answered, refused_with, apply_of}
 use Rattle.machine.specs.declared.ThreadId.{ThreadId}
 use Rattle.machine.specs.declared.NodeId.{NodeId}
-use Rattle.machine.specs.declared.Announced.{Announced}
-use Rattle.machine.specs.declared.Announced.TheVariants.{NoRequest, Asked}
-use Rattle.machine.specs.declared.RetVal.TheVariants.{NoAnswer}
 use Rattle.machine.specs.declared.Node.{Node}
 use Rattle.machine.specs.declared.Thread.{Thread}
 use Rattle.machine.specs.declared.Event.{Event}
 use Rattle.machine.specs.declared.Event.TheVariants.{Blank, Swaps, TurnBegins, Applies, Spins}
 use Rattle.machine.specs.declared.Row.{Row}
-use Rattle.machine.specs.declared.Effect.{Effect}
+use Rattle.machine.specs.Effect.{Effect}
 use Rattle.machine.specs.Accesses.{Access, pointed}
 use Rattle.machine.specs.Events.{same_event}
 use Rattle.cc_lines.specs.Lines.{line_of, row_of, accesses_by, event_in}
@@ -49,20 +45,20 @@ zero_thread = record {
 }
 
 abbrev pub zero_node : Node
-zero_node = record { req = NoRequest; ret = NoAnswer; wait = false; completed = false; next = zero_node_id }
+zero_node = record { req = None; ret = None; wait = false; completed = false; next = zero_node_id }
 
 -- also what stands at the start on the places past a thread's count
 abbrev pub zero_slot : Slot
 zero_slot = record { request = Put 0 }
 
 -- the object's answer to a node's req, and the object after it; the use of an empty req is 14
-abbrev pub served_by : Kind → ℕ → Object → Announced → Applied
-served_by kind capacity ob NoRequest = refused_with 14 ob
-served_by kind capacity ob (Asked request) = apply_of kind capacity ob request
+abbrev pub served_by : Kind → ℕ → Object → Option Request → Applied
+served_by kind capacity ob None = refused_with 14 ob
+served_by kind capacity ob (Some request) = apply_of kind capacity ob request
 
 -- an entry that applies does so to the node's req, which in a state in range the object knows, or which is empty, and that `uses_empty` judges. Any other entry
 -- leaves the object, and its line looks at no answer
-abbrev pub applied_at : Event → Kind → ℕ → Object → Announced → Applied
+abbrev pub applied_at : Event → Kind → ℕ → Object → Option Request → Applied
 applied_at event kind capacity ob req = cond (same_event event Applies) (served_by kind capacity ob req) (answered Empty ob)
 
 abbrev pub one_if : Bool → ℕ

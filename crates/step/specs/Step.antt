@@ -1,11 +1,22 @@
 -- The single step, by the state's method: 14 for the state, then 11, then 14 for the outcome, and the state after it.
-use Rattle.std.specs.Prelude.{ℕ, Bool, cond, not, ◌&&◌, nat_le}
+use Rattle.std.specs.Prelude.{ℕ, Bool, cond, not, ◌&&◌, nat_le, Result, Ok, Err}
+use Rattle.refusal.specs.declared.Refusal.{Refusal}
+use Rattle.refusal.specs.Numbers.{number}
 use Rattle.machine.specs.declared.Method.{Method}
 use Rattle.machine.specs.declared.ThreadId.{ThreadId}
 use Rattle.state.specs.declared.State.{State}
 use Rattle.state.specs.Range.{in_range_by}
-use Rattle.step.specs.declared.Stepped.{Stepped}
 use Rattle.step.specs.ByMethod.{misses_by, entered_by}
+
+-- refusal 0 with the state after the entry, or a refusal's number with the state as it was
+pub record Stepped : Type 0 where
+  pub refusal : ℕ
+  pub state : State
+
+-- what the single step of a state answers
+abbrev pub as_stepped : State → Result State Refusal → Stepped
+as_stepped s (Ok after) = record { refusal = 0; state = after }
+as_stepped s (Err refusal) = record { refusal = number refusal; state = s }
 
 -- a refusal has its number, and the state as it was
 abbrev pub refused : ℕ → State → Stepped

@@ -1,8 +1,7 @@
 -- The step repeated over a schedule.
 use Rattle.std.specs.Prelude.{ℕ, cond, List, [], ◌∷◌, ◌==◌}
 use Rattle.state.specs.declared.State.{State}
-use Rattle.step.specs.declared.Stepped.{Stepped}
-use Rattle.step.specs.Step.{step_of}
+use Rattle.step.specs.Step.{Stepped, step_of}
 
 -- a step after those before it, unless one was refused
 abbrev pub onward : Stepped → ℕ → Stepped

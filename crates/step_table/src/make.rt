@@ -1,5 +1,5 @@
 // States: document 01's start, a state in use whose numbers past n are out of range, and a state with one part changed.
-use machine::{Announced, Method, Node, NodeId, RetVal, Thread};
+use machine::{Method, Node, NodeId, Thread};
 use object::{Answer, Kind, Request};
 use state::{Counts, Slot, State};
 
@@ -61,24 +61,24 @@ fn request(kind: Kind, word: Word) -> Request {
     }
 }
 
-fn req_with(kind: Kind, req: Announced, word: Word) -> Announced {
+fn req_with(kind: Kind, req: Option<Request>, word: Word) -> Option<Request> {
     let request = request(kind, word);
     let field = word.field;
     match field {
-        b'p' | b'g' | b'a' | b'k' => Announced::Asked(request),
-        b'e' => Announced::NoRequest,
+        b'p' | b'g' | b'a' | b'k' => Some(request),
+        b'e' => None,
         _ => req,
     }
 }
 
-fn ret_with(ret: RetVal, word: Word) -> RetVal {
+fn ret_with(ret: Option<Answer>, word: Word) -> Option<Answer> {
     let field = word.field;
     match field {
-        b'D' => RetVal::Answered(Answer::Done(signed(word.value))),
-        b'E' => RetVal::Answered(Answer::Empty),
-        b'F' => RetVal::Answered(Answer::Full),
-        b'V' => RetVal::Answered(Answer::Value(word.value as u32)),
-        b'N' => RetVal::NoAnswer,
+        b'D' => Some(Answer::Done(signed(word.value))),
+        b'E' => Some(Answer::Empty),
+        b'F' => Some(Answer::Full),
+        b'V' => Some(Answer::Value(word.value as u32)),
+        b'N' => None,
         _ => ret,
     }
 }
@@ -206,7 +206,7 @@ fn items() -> [u32; 64] {
     items
 }
 
-fn node(req: Announced, ret: RetVal, flag: bool, next: u8) -> Node {
+fn node(req: Option<Request>, ret: Option<Answer>, flag: bool, next: u8) -> Node {
     Node {
         req,
         ret,
@@ -250,7 +250,7 @@ fn whole(method: Method, kind: Kind, n: u8, thread: Thread, node: Node, request:
 // The start but for the threads' own nodes and Tail; the threads have as many requests each, all alike.
 pub(crate) fn started(method: Method, kind: Kind, n: u8, count: u8) -> State {
     let thread = thread(count, 0, 0, 255, 0);
-    let node = node(Announced::NoRequest, RetVal::NoAnswer, false, 255);
+    let node = node(None, None, false, 255);
     let request = object::request_of(object::least_code(kind), 5);
     whole(method, kind, n, thread, node, request)
 }
@@ -259,8 +259,8 @@ pub(crate) fn started(method: Method, kind: Kind, n: u8, count: u8) -> State {
 pub(crate) fn strange(method: Method, kind: Kind) -> State {
     let thread = thread(17, 99, 22, 99, 99);
     let request = object::request_of(object::least_code(kind) ^ 2, 98);
-    let asked = Announced::Asked(request);
-    let node = node(asked, RetVal::Answered(Answer::Done(99)), true, 99);
+    let asked = Some(request);
+    let node = node(asked, Some(Answer::Done(99)), true, 99);
     let mut s = whole(method, kind, 3, thread, node, request);
     let mut object = s.object;
     let items = items();

@@ -1,8 +1,8 @@
 // A step's refusal, and what differs between the state handed in and the state handed back, over all places of both.
 use crate::make::Word;
 use console::Output;
-use machine::{Announced, Node, RetVal, Thread, ThreadId};
-use object::{Object, Request};
+use machine::{Node, Thread, ThreadId};
+use object::{Answer, Object, Request};
 use state::{Counts, Slot, State};
 
 fn wide8(x: u8) -> u64 {
@@ -57,17 +57,17 @@ fn request_said(request: Request) -> u64 {
     )
 }
 
-fn req_said(req: Announced) -> u64 {
+fn req_said(req: Option<Request>) -> u64 {
     match req {
-        Announced::NoRequest => said(3, 0),
-        Announced::Asked(request) => request_said(request),
+        None => said(3, 0),
+        Some(request) => request_said(request),
     }
 }
 
-fn ret_said(ret: RetVal) -> u64 {
+fn ret_said(ret: Option<Answer>) -> u64 {
     match ret {
-        RetVal::NoAnswer => said(3, 0),
-        RetVal::Answered(answer) => said(
+        None => said(3, 0),
+        Some(answer) => said(
             object::answer_mark(answer) | 4,
             object::answer_value(answer),
         ),
@@ -102,24 +102,19 @@ fn words(output: &mut Output, whole: &[u8], at: usize, part: &[u8], before: u64,
 fn head(output: &mut Output, a: State, b: State) {
     let stepped_by = a.method;
     let steps_by = b.method;
-    let method = machine::method_number(steps_by);
+    let method = u8::from(steps_by);
     single(
         output,
         b"method",
-        wide8(machine::method_number(stepped_by)),
+        wide8(u8::from(stepped_by)),
         wide8(method),
     );
     single(output, b"n", wide8(a.n), wide8(b.n));
     single(output, b"h", wide8(a.h), wide8(b.h));
     let was = a.kind;
     let is = b.kind;
-    let kind = object::kind_number(is);
-    single(
-        output,
-        b"kind",
-        wide8(object::kind_number(was)),
-        wide8(kind),
-    );
+    let kind = u8::from(is);
+    single(output, b"kind", wide8(u8::from(was)), wide8(kind));
     single(output, b"capacity", wide8(a.capacity), wide8(b.capacity));
     single(output, b"tail", wide8(a.tail.0), wide8(b.tail.0));
 }

@@ -14,22 +14,22 @@ copied : (out : List ℕ) (at k : ℕ) {part bytes : List ℕ} → part ≡ byte
 copied out at k e n = rw (e, n, drop-drop, ← append_assoc)
 
 pub loop-i-init : goal.loop-i-init
-loop-i-init c = lays_none c.args.kept c.args.order c.args.out.now c.args.count
+loop-i-init c = let p = c.args.played.now in lays_none p.kept p.order c.args.out.now p.counts.records
 
 pub loop-i-preserved : goal.loop-i-preserved
 loop-i-preserved c =
-    let a = c.args in
+    let p = c.args.played.now in
     let l = c.loop-i in
-    let place = get_or a.order l.i 0 in
+    let place = get_or p.order l.i 0 in
     let below : place < most_calls = c.requires.by_index l.i c.loop-i-test.true in
-    let there : a.count ≤ length a.order = search rules in
-    let answered : c.record_bytes-record.result ≡ record_at a.kept place =
-    c.record_bytes-record.ensures ∙ ap (kept_record (call_at place)) (get_d_any a.kept place _ unkept (search rules)) in
-    lays a.kept a.order a.out.now a.count there c.requires.count_le_most_calls.1 l.out c.record_bytes-record.result l.i l.invariant c.loop-i-test.true answered
-    (copied l.out _ _ c.copy_from_slice.ensures.after (omega (arith, ap length answered, record_long a.kept place)))
+    let there : p.counts.records ≤ length p.order = search rules in
+    let answered : c.record_bytes-record.result ≡ record_at p.kept place =
+    c.record_bytes-record.ensures ∙ ap (kept_record (call_at place)) (get_d_any p.kept place _ unkept (search rules)) in
+    lays p.kept p.order c.args.out.now p.counts.records there c.requires.count_le_most_calls.1 l.out c.record_bytes-record.result l.i l.invariant c.loop-i-test.true answered
+    (copied l.out _ _ c.copy_from_slice.ensures.after (omega (arith, ap length answered, record_long p.kept place)))
 
 pub returns : goal.returns
 returns c =
-    let a = c.args in
-    let there : a.count ≤ length a.order = search rules in
-    lays_all a.kept a.order a.out.now a.count there c.requires.count_le_most_calls.1 _ _ c.loop-i.invariant c.loop-i-test.false
+    let p = c.args.played.now in
+    let there : p.counts.records ≤ length p.order = search rules in
+    lays_all p.kept p.order c.args.out.now p.counts.records there c.requires.count_le_most_calls.1 _ _ c.loop-i.invariant c.loop-i-test.false

@@ -1,9 +1,25 @@
--- The bytes of a record, one by one. Assumes nothing.
-use Rattle.kept.specs.Kept.{call_at}
-use Rattle.bench.proofs.Spelled.{record_spelled}
+-- The bytes of a record, field by field. Assumes nothing.
+use Rattle.bench.proofs.Spelled.{four_bytes, two_bytes}
 use Rattle.bench.proofs.record_bytes.Goals as goal
 
 pub returns : goal.returns
 returns c =
-    record_spelled (call_at c.args.place) c.args.kept c.low_first-value.ensures c.low_first-remote.ensures c.state_byte-state.ensures c.low_first-turn.ensures
-    c.low_first-began.ensures c.low_first-returned.ensures
+    let k = c.args.kept in
+    rw (
+      c.copy_from_slice-5.ensures.after,
+      c.copy_from_slice-4.ensures.after,
+      c.copy_from_slice-3.ensures.after,
+      c.copy_from_slice-2.ensures.after,
+      c.copy_from_slice.ensures.after,
+      c.to_le_bytes.ensures,
+      c.to_le_bytes-2.ensures,
+      c.to_le_bytes-3.ensures,
+      c.to_le_bytes-4.ensures,
+      c.to_le_bytes-5.ensures,
+      c.state_byte.ensures,
+      ← four_bytes k.value,
+      ← four_bytes k.remote,
+      ← two_bytes k.turn,
+      ← four_bytes k.began,
+      ← four_bytes k.returned,
+    )

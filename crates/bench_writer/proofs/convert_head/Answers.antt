@@ -15,7 +15,7 @@ pub returns-then-out-converted : goal.returns-then-out-converted
 returns-then-out-converted c =
     let a = c.args in
     let rest = drop (head_length a.head.version) a.file.now in
-    let allowed : method_number a.head.method ≤ most_method a.wanted = omega (arith, c.most_method.ensures, c.method_number-by.ensures) in
+    let allowed : method_number a.head.method ≤ most_method a.wanted = omega (arith, c.most_method.ensures, c.from-by.ensures) in
     fills (head_short a.wanted (length a.out.now) a.head rest allowed (omega (arith, c.head_bytes-at.ensures, c.head_bytes-from.ensures, length-drop (head_length a.head.version) a.file.now))) refl refl refl
 
 pub returns : goal.returns
@@ -23,12 +23,12 @@ returns c =
     let a = c.args in
     let rest = drop (head_length a.head.version) a.file.now in
     let head = head_bytes (head_in a.wanted a.head) in
-    let allowed : method_number a.head.method ≤ most_method a.wanted = omega (arith, c.most_method.ensures, c.method_number-by.ensures) in
+    let allowed : method_number a.head.method ≤ most_method a.wanted = omega (arith, c.most_method.ensures, c.from-by.ensures) in
     let size : c.head_bytes-at.result + (length a.file.now - c.head_bytes-from.result) ≡ head_length a.wanted + length rest =
     omega (arith, c.head_bytes-at.ensures, c.head_bytes-from.ensures, length-drop (head_length a.head.version) a.file.now) in
     let part : take (length a.file.now - c.head_bytes-from.result) (drop c.head_bytes-from.result a.file.now) ≡ rest =
     rw (← c.head_bytes-from.ensures) (take_all (length a.file.now - c.head_bytes-from.result) (drop c.head_bytes-from.result a.file.now) (rw length-drop (omega arith))) in
-    let put_head : c.put_head.new.out ≡ pasted a.out.now 0 head = rw (← c.kind_number-kind.ensures, ← c.method_number-by.ensures) c.put_head.ensures in
+    let put_head : c.put_head.new.out ≡ pasted a.out.now 0 head = rw (← c.from-kind.ensures, ← c.from-by.ensures) c.put_head.ensures in
     let long : c.head_bytes-at.result ≡ length head = c.head_bytes-at.ensures ∙ sym (head_long (head_in a.wanted a.head)) in
     fills (head_whole a.wanted (length a.out.now) a.head rest allowed (omega (arith, size))) refl
     (size ∙ sym (laid_length a.wanted (length a.out.now) a.head rest))

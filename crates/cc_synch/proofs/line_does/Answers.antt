@@ -23,7 +23,7 @@ pub returns-in-5 : goal.returns-in-5
 returns-in-5 c = let s = same c.args.thread (omega (arith, c.well_formed)) in simp (c.in-5.is, s.0, s.1)
 
 pub returns-in-6 : goal.returns-in-6
-returns-in-6 c = let s = same c.args.thread (omega (arith, c.well_formed)) in simp (c.with_req-x.ensures, c.in-6.is, s.0, s.1)
+returns-in-6 c = let s = same c.args.thread (omega (arith, c.well_formed)) in simp (c.in-6.is, s.0, s.1)
 
 pub returns-in-7 : goal.returns-in-7
 returns-in-7 c = let s = same c.args.thread (omega (arith, c.well_formed)) in simp (c.in-7.is, s.0, s.1)
@@ -50,7 +50,7 @@ pub returns-in-15 : goal.returns-in-15
 returns-in-15 c = let s = same c.args.thread (omega (arith, c.well_formed)) in simp (c.in-15.is, s.0, s.1)
 
 pub returns-in-16 : goal.returns-in-16
-returns-in-16 c = let s = same c.args.thread (omega (arith, c.well_formed)) in simp (c.with_ret-x.ensures, c.in-16.is, s.0, s.1)
+returns-in-16 c = let s = same c.args.thread (omega (arith, c.well_formed)) in simp (c.in-16.is, s.0, s.1)
 
 pub returns-in-17 : goal.returns-in-17
 returns-in-17 c = let s = same c.args.thread (omega (arith, c.well_formed)) in simp (c.in-17.is, s.0, s.1)

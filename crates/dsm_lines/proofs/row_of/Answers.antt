@@ -1,9 +1,10 @@
--- Past 28 there is no line. Assumes nothing.
-use Rattle.std.proofs.Common.{◌∷◌, ◌∙◌, ap}
-use Rattle.machine.proofs.NoLine.{none_above}
+-- The const table is the list of the printed lines, by computation, and a row is that of its line. Assumes nothing.
+use Rattle.std.proofs.Common.{◌∙◌, ap}
+use Rattle.machine.specs.Accesses.{row_from}
+use Rattle.machine.proofs.Lines.{table_at}
 use Rattle.dsm_lines.specs.Lines.{L0, printed}
-use Rattle.dsm_lines.specs.Rows.{row_of}
+use Rattle.dsm_lines.specs.Rows.{printed_line}
 use Rattle.dsm_lines.proofs.row_of.Goals as goal
 
-pub returns-then-line-gt28 : goal.returns-then-line-gt28
-returns-then-line-gt28 c = c.row_from-then-line-gt28.ensures ∙ ap row_of (none_above L0 (L0 ∷ printed) _ c.if-line-gt28.true)
+pub returns : goal.returns
+returns c = c.row_in.ensures ∙ ap row_from (table_at printed_line L0 printed c.args.line)

@@ -1,22 +1,25 @@
 -- The refusal of a file, of its run, or the run. Assumes nothing.
-use Rattle.std.proofs.Common.{◌≡◌, length, sym, ◌∙◌, arith, rules}
-use Rattle.bench.proofs.Enough.{ran, refusal_is}
+use Rattle.std.proofs.Common.{◌≡◌, length, refl, sym, ◌∙◌, arith, rules}
+use Rattle.bench.proofs.Enough.{ran, refusal_is, number_some}
 use Rattle.bench.specs.Run.{enough_for_records}
 use Rattle.listing.proofs.Service.{one_digit, lists_run, lists_null, lists_refusal}
 use Rattle.listing.proofs.list.Goals as goal
 
-pub returns-then-answer-ne0 : goal.returns-then-answer-ne0
-returns-then-answer-ne0 c = lists_null _ _ (refusal_is c.run-answer.ensures c.judge.ensures) c.if-answer-ne0.true c.give_refusal.ensures
+pub returns-in-Err : goal.returns-in-Err
+returns-in-Err c =
+    let number = c.number in
+    let some = number_some c.in-Err.refusal in
+    lists_null _ _ (number.ensures ∙ refusal_is c.in-Err.ensures c.judge.ensures) (λ z. absurd (omega (arith, z, number.ensures, some))) c.give_refusal.ensures
 
 pub list_run-requires : goal.list_run-requires
 list_run-requires c =
-    let ready = ran c.run-answer.ensures c.judge.ensures c.if-answer-ne0.false in
-    let long : length c.run-answer.new.out ≡ enough_for_records = search rules in
+    let ready = ran c.in-Ok.ensures c.judge.ensures refl in
+    let long : length c.run.new.out ≡ enough_for_records = search rules in
     (omega (arith, ready.few), ready.few, one_digit ready (sym c.in-Accepted.is ∙ c.judge.ensures.answer))
 
-pub returns-else-answer-ne0 : goal.returns-else-answer-ne0
-returns-else-answer-ne0 c =
-    let ready = ran c.run-answer.ensures c.judge.ensures c.if-answer-ne0.false in
+pub returns-in-Ok : goal.returns-in-Ok
+returns-in-Ok c =
+    let ready = ran c.in-Ok.ensures c.judge.ensures refl in
     lists_run _ _ _ ready (sym c.in-Accepted.is ∙ c.judge.ensures.answer) c.list_run.ensures
 
 pub returns-in-Refused : goal.returns-in-Refused

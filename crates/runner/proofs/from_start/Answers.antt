@@ -1,10 +1,17 @@
 -- Each entry of the loop in `from_start` keeps what Running.antt says of a run, by Quiet.antt where it is a quiet one, and reads and writes within the arrays. Assumes nothing.
-use Rattle.std.proofs.Common.{◌≡◌, ℕ, ◌+◌, ◌-◌, ◌*◌, ◌<◌, Bool, true, cond, eqb, List, length, get_or, set, replicate, sym, refl, ap, ap₂, ◌∙◌, arith}
+use Rattle.std.proofs.Common.{◌≡◌, ℕ, ◌+◌, ◌-◌, ◌*◌, ◌<◌, Bool, true, Result, cond, eqb, List, length, get_or, set, replicate, sym, refl, ap, ap₂, ◌∙◌, arith}
+use Rattle.std.specs.Result.{result_unwrap_or}
+use Rattle.std.proofs.lemmas.Result.{err_from_is_err_and}
 use lib.Seq.{set_out}
 use Rattle.object.specs.declared.Kind.{Kind}
 use Rattle.object.specs.declared.Answer.{Answer}
-use Rattle.object.specs.declared.Applied.{Applied}
-use Rattle.machine.specs.declared.Effect.{Effect}
+use Rattle.object.specs.declared.Answer.TheVariants.{Empty}
+use Rattle.object.specs.declared.Object.{Object}
+use Rattle.object.specs.Apply.{as_applied}
+use Rattle.object.proofs.Taken.{taken_answer, taken_object}
+use Rattle.refusal.specs.declared.Refusal.{Refusal}
+use Rattle.machine.specs.declared.After.{After}
+use Rattle.machine.specs.Effect.{Effect, done, as_effect}
 use Rattle.machine.specs.declared.Event.{Event}
 use Rattle.machine.specs.declared.Event.TheVariants.{Blank, Applies}
 use Rattle.machine.specs.declared.Method.{Method}
@@ -15,6 +22,7 @@ use Rattle.machine.specs.declared.Row.{Row}
 use Rattle.machine.specs.declared.ThreadId.{ThreadId}
 use Rattle.machine.specs.Accesses.{pointed, accesses_of, written_of}
 use Rattle.machine.specs.Events.{same_event, event_found}
+use Rattle.machine.proofs.Same.{events_equal}
 use Rattle.machine.specs.Sizes.{most_calls, most_nodes}
 use Rattle.cc_lines.specs.Lines as CcLines
 use Rattle.cc_synch.specs.Effect as CcEffect
@@ -27,6 +35,7 @@ use Rattle.state.specs.declared.State.{State}
 use Rattle.step.specs.Entry.{zero_node, zero_slot, more_of, named, line, served_by, applied_at}
 use Rattle.step.specs.ByMethod.{node_by}
 use Rattle.step.proofs.Entering.{Called}
+use Rattle.step.proofs.Numbers.{fails}
 use Rattle.history.specs.Entries.{thread_id}
 use Rattle.history.proofs.Places.{get_d_any}
 use Rattle.kept.specs.declared.Kept.{Kept}
@@ -52,6 +61,10 @@ behind m s x = get_or s.nodes (behind_by m x.next).0 zero_node
 abbrev answered : Method → State → ThreadId → Node → Event → ℕ → Effect
 answered m s t x ev c =
     effect_by m t.0 (named s t) x (behind m s x) s.tail s.h (get_or s.requests c zero_slot).request (applied_at ev s.kind s.capacity s.object x.req).answer
+
+-- what is answered of the line, as an effect
+abbrev said : State → ThreadId → Node → Result After Refusal → Effect
+said s t x = as_effect (named s t) x s.tail
 
 -- then what the line does, its remote references, the node that it writes and what it adds to the counts make the call whole
 called_by : {m : Method} {s : State} {t : ThreadId} {k c remote : ℕ} {r : Row} {p w : NodeId} {x : Node} {ev : Event} {e : Effect} {copies : List ℕ} {more : Counts}
@@ -99,10 +112,13 @@ module _ {bytes : List ℕ} {start : State} {m : Method} {rows : List Row} {spin
 
   module _ {k c : ℕ} {r : Row} {p : NodeId} {x : Node} {ev : Event} (read : Read m s t k r p x ev c) where
     -- the branch for an entry that applies, and that for any other
-    serves_it : {J : State} {answer : Answer} {ob : Applied} {b : Bool} → b ≡ same_event ev Applies → b ≡ true → ob ≡ served_by kind capacity s.object x.req
-        → answer ≡ ob.answer → J ≡ changed s ob.object s.nodes s.counts → Serves s J answer (applied_at ev s.kind s.capacity s.object x.req)
-    serves_it {J} {answer} e q ob a j =
-        serves_one s J answer ev x.req (sym e ∙ q) (ob ∙ ap₂ (λ (kind : Kind) (capacity : ℕ). served_by kind capacity s.object x.req) now.object now.room) a j
+    serves_it : {J : State} {answer : Answer} {r : Result (Answer × Object) Refusal} {given : Answer × Object} {b : Bool} → b ≡ same_event ev Applies → b ≡ true
+        → as_applied s.object r ≡ served_by kind capacity s.object x.req → given ≡ result_unwrap_or r (Empty, s.object)
+        → answer ≡ given.0 → J ≡ changed s given.1 s.nodes s.counts → Serves s J answer (applied_at ev s.kind s.capacity s.object x.req)
+    serves_it {J} {answer} {r} e q ob u a j =
+        serves_one s J answer ev x.req (sym e ∙ q) (ob ∙ ap₂ (λ (kind : Kind) (capacity : ℕ). served_by kind capacity s.object x.req) now.object now.room)
+        (a ∙ ap (λ (g : Answer × Object). g.0) u ∙ taken_answer s.object r)
+        (j ∙ ap (λ (g : Answer × Object). changed s g.1 s.nodes s.counts) u ∙ ap (λ (o : Object). changed s o s.nodes s.counts) (taken_object s.object r))
 
     -- the node that the line points to is the entry's
     node_so : x ≡ node_by m s t
@@ -153,8 +169,8 @@ serves : (c : After-call_place-call)
     → Serves c.loop-i.state c.if-applies.state c.if-applies.answer (applied_at c.event_in-event.result c.loop-i.state.kind c.loop-i.state.capacity c.loop-i.state.object c.if-m-lt-NODES.node.req)
 serves c =
     elim c.if-applies.branch [
-      | then-applies w ↦ serves_it c.loop-i.invariant c.loop-i-test.true (read_of c) c.same_event-applies.ensures w.if-applies.true w.served_by-applied.ensures w.answer-is w.state-is
-      | else-applies w ↦ serves_none _ _ _ _ _ (sym c.same_event-applies.ensures ∙ w.if-applies.false) w.answer-is w.state-is
+      | then-applies w ↦ serves_it c.loop-i.invariant c.loop-i-test.true (read_of c) (c.eq-applies.ensures ∙ events_equal _ Applies) w.if-applies.true w.served_by-applied.ensures w.unwrap_or-given.ensures w.answer-is w.state-is
+      | else-applies w ↦ serves_none _ _ _ _ _ (sym (c.eq-applies.ensures ∙ events_equal _ Applies) ∙ w.if-applies.false) w.answer-is w.state-is
     ]
 
 -- an entry that applies leaves the nodes
@@ -162,19 +178,21 @@ nodes_same : (c : After-call_place-call) → c.if-applies.state.nodes ≡ c.loop
 nodes_same c = ap (λ (s : State). s.nodes) (serves c).state
 
 -- what the line did
-acts : (c : After-call_place-call) → c.match-method.effect ≡ answered c.args.start.method c.loop-i.state (thread_id (get_or c.args.schedule.now c.loop-i.i 0)) c.if-m-lt-NODES.node c.event_in-event.result c.call_place-place.result
+acts : (c : After-call_place-call) → done c.in_ok-done.done ≡ answered c.args.start.method c.loop-i.state (thread_id (get_or c.args.schedule.now c.loop-i.i 0)) c.if-m-lt-NODES.node c.event_in-event.result c.call_place-place.result
 acts c =
     let now = c.loop-i.invariant in
     let at = c.loop-i-test.true in
-    elim c.match-method.branch [
-      | in-CcSynch w ↦ by_cc now at (read_of c) (serves c) w.in-CcSynch.is (w.effect-is ∙ w.executed-effect.ensures)
+    let says : Result After Refusal → Effect = said c.loop-i.state (thread_id (get_or c.args.schedule.now c.loop-i.i 0)) c.if-m-lt-NODES.node in
+    ap says (sym c.in_ok-done.was)
+    ∙ elim c.match-method.branch [
+      | in-CcSynch w ↦ by_cc now at (read_of c) (serves c) w.in-CcSynch.is (ap says w.effect-is ∙ w.executed.ensures)
       | in-DsmSynch w ↦
           by_dsm now at (read_of c) (serves c) w.in-DsmSynch.is
           (elim w.if-b-lt-NODES.branch [
             | then-b-lt-NODES v ↦ v.behind-is ∙ ap (λ (l : List Node). get_or l c.if-m-lt-NODES.node.next.0 zero_node) (nodes_same c)
             | else-b-lt-NODES v ↦ read_there c.loop-i.state.nodes (v.behind-is ∙ w.zero_node-behind.ensures) (omega (arith, long now at, v.if-b-lt-NODES.false))
           ])
-          (w.effect-is ∙ w.run_line-effect.ensures)
+          (ap says w.effect-is ∙ w.run_line-effect.ensures)
     ]
 
 -- and with it what all calls for the entry answered
@@ -182,7 +200,7 @@ called : (c : After-call_place-call)
     → let s = c.loop-i.state in
     let x = c.if-m-lt-NODES.node in
     let ev = c.event_in-event.result in
-    Called c.args.start.method s (thread_id (get_or c.args.schedule.now c.loop-i.i 0)) c.line_run-line.result (get_or c.all_rows-rows.result c.line_run-line.result (row_by CcSynch 0)) c.pointed-points.result x (behind c.args.start.method s x) ev c.call_place-place.result (applied_at ev s.kind s.capacity s.object x.req) c.match-method.effect c.refer_all-remote.result c.refer_all-remote.new.copies c.written-written.result c.more_of-more.result
+    Called c.args.start.method s (thread_id (get_or c.args.schedule.now c.loop-i.i 0)) c.line_run-line.result (get_or c.all_rows-rows.result c.line_run-line.result (row_by CcSynch 0)) c.pointed-points.result x (behind c.args.start.method s x) ev c.call_place-place.result (applied_at ev s.kind s.capacity s.object x.req) (done c.in_ok-done.done) c.refer_all-remote.result c.refer_all-remote.new.copies c.written-written.result c.more_of-more.result
 called c =
     let t = thread_id (get_or c.args.schedule.now c.loop-i.i 0) in
     let row = get_or c.all_rows-rows.result c.line_run-line.result (row_by CcSynch 0) in
@@ -196,19 +214,17 @@ call_small : (c : After-call_place-call) → c.call_place-call.result < most_cal
 call_small c =
     let now = c.loop-i.invariant in
     let at = c.loop-i-test.true in
-    let done = c.if-effect-ne0.false in
-    let is = is_call _ _ _ now.fits now.running at (called c) done c.call_place-call.ensures in
-    omega (arith, is, call_below _ _ _ now.fits now.running at (fine _ _ _ now.fits now.running at (called c) done))
+    let is = is_call _ _ _ now.fits now.running at (called c) refl c.call_place-call.ensures in
+    omega (arith, is, call_below _ _ _ now.fits now.running at (fine _ _ _ now.fits now.running at (called c) refl))
 
 their_small : (c : After-given_at-served) → c.given_at-served.result < most_calls
 their_small c =
     let all = (goal.at.bounds-kept-served c).After-call_place-call in
     let now = c.loop-i.invariant in
     let at = c.loop-i-test.true in
-    let done = c.if-effect-ne0.false in
     let chosen : Bool → ℕ = λ serves. cond serves (get_or c.loop-i.given c.pointed-points.result.0 0) c.call_place-call.result in
-    let is = is_served _ _ _ now.fits now.running at (called all) done c.call_place-call.ensures c.same_event-applies.ensures (c.given_at-served.ensures ∙ sym (ap chosen c.if-applies-2.true)) in
-    omega (arith, is, their_below _ _ _ now.fits now.running at (fine _ _ _ now.fits now.running at (called all) done))
+    let is = is_served _ _ _ now.fits now.running at (called all) refl c.call_place-call.ensures (c.eq-applies.ensures ∙ events_equal _ Applies) (c.given_at-served.ensures ∙ sym (ap chosen c.if-applies-2.true)) in
+    omega (arith, is, their_below _ _ _ now.fits now.running at (fine _ _ _ now.fits now.running at (called all) refl))
 
 -- what stands in the place of a call past the end of the array
 abbrev zero_kept : Kept
@@ -232,12 +248,12 @@ stored_in j t e copies nodes = record {
 }
 
 stored : (c : After-call_place-call)
-    → c.if-writes_any.state ≡ stored_in c.if-applies.state (thread_id (get_or c.args.schedule.now c.loop-i.i 0)) c.match-method.effect c.refer_all-remote.new.copies (set c.if-applies.state.nodes c.written-written.result.0 c.match-method.effect.node)
+    → c.if-writes_any.state ≡ stored_in c.if-applies.state (thread_id (get_or c.args.schedule.now c.loop-i.i 0)) (done c.in_ok-done.done) c.refer_all-remote.new.copies (set c.if-applies.state.nodes c.written-written.result.0 c.in_ok-done.done.node)
 stored c =
     let now = c.loop-i.invariant in
     let at = c.loop-i-test.true in
     let j = c.if-applies.state in
-    let e = c.match-method.effect in
+    let e = done c.in_ok-done.done in
     let w = c.written-written.result in
     let same = nodes_same c in
     let inside : length j.nodes ≡ most_nodes = ap length same ∙ long now at in
@@ -249,13 +265,13 @@ stored c =
           v.state-is
           ∙ ap with_nodes
           (same
-          ∙ sym (nodes_stay _ _ _ now.fits now.running at (called c) c.if-effect-ne0.false (sym c.writes_any.ensures ∙ v.if-writes_any.false))
+          ∙ sym (nodes_stay _ _ _ now.fits now.running at (called c) refl (sym c.writes_any.ensures ∙ v.if-writes_any.false))
           ∙ ap (λ (l : List Node). set l w.0 e.node) (sym same))
     ]
 
 -- the calls after the entry: its own, and the one that it serves, if it does
 kept_is : (c : After-note_entry)
-    → Stored (set c.loop-i.kept c.call_place-call.result c.after_entry.result) zero_kept (get_or c.loop-i.given c.pointed-points.result.0 0) c.call_place-call.result c.if-applies.answer (thread_id (get_or c.args.schedule.now c.loop-i.i 0)) (get_or c.loop-i.turns (get_or c.args.schedule.now c.loop-i.i 0) 0) c.same_event-applies.result c.if-applies-2.kept
+    → Stored (set c.loop-i.kept c.call_place-call.result c.after_entry.result) zero_kept (get_or c.loop-i.given c.pointed-points.result.0 0) c.call_place-call.result c.if-applies.answer (thread_id (get_or c.args.schedule.now c.loop-i.i 0)) (get_or c.loop-i.turns (get_or c.args.schedule.now c.loop-i.i 0) 0) c.eq-applies.result c.if-applies-2.kept
 kept_is c =
     let calls = set c.loop-i.kept c.call_place-call.result c.after_entry.result in
     let g = get_or c.loop-i.given c.pointed-points.result.0 0 in
@@ -263,7 +279,7 @@ kept_is c =
     let answer = c.if-applies.answer in
     let t = thread_id (get_or c.args.schedule.now c.loop-i.i 0) in
     let turn = get_or c.loop-i.turns t.0 0 in
-    let applies = c.same_event-applies.result in
+    let applies = c.eq-applies.result in
     let served : ℕ → Kept = λ i. after_serving (get_or calls i zero_kept) true answer t turn in
     elim c.if-applies-2.branch [
       | then-applies-2 w ↦
@@ -291,44 +307,46 @@ loop-i-preserved-then-state-spun c =
 pub bounds-rows-line : goal.bounds-rows-line
 bounds-rows-line c = line_below c.loop-i.invariant c.loop-i-test.true c.line_run-line.ensures
 
-pub overflow_add-state-then-same_event : goal.overflow_add-state-then-same_event
-overflow_add-state-then-same_event c =
+pub overflow_add-state-then-eq : goal.overflow_add-state-then-eq
+overflow_add-state-then-eq c =
     let now = c.loop-i.invariant in
     let at = c.loop-i-test.true in
-    omega (arith, counts_fit now at (blank now at c.line_run-line.ensures c.same_event.ensures c.if-same_event.true))
+    omega (arith, counts_fit now at (blank now at c.line_run-line.ensures (c.eq.ensures ∙ events_equal _ Blank) c.if-eq.true))
 
-pub loop-i-preserved-then-same_event : goal.loop-i-preserved-then-same_event
-loop-i-preserved-then-same_event c =
+pub loop-i-preserved-then-eq : goal.loop-i-preserved-then-eq
+loop-i-preserved-then-eq c =
     let now = c.loop-i.invariant in
     let at = c.loop-i-test.true in
-    looping_quiet now at (blank now at c.line_run-line.ensures c.same_event.ensures c.if-same_event.true)
+    looping_quiet now at (blank now at c.line_run-line.ensures (c.eq.ensures ∙ events_equal _ Blank) c.if-eq.true)
 
 pub bounds-state-place : goal.bounds-state-place
 bounds-state-place c = let now = c.loop-i.invariant in slot_few _ _ _ now.fits now.running c.loop-i-test.true c.call_place-place.ensures
 
-pub returns-then-effect-ne0 : goal.returns-then-effect-ne0
-returns-then-effect-ne0 c =
+pub returns-in_err-done : goal.returns-in_err-done
+returns-in_err-done c =
     let now = c.loop-i.invariant in
     let at = c.loop-i-test.true in
     let s = c.loop-i.state in
-    let seen = read (goal.at.returns-then-effect-ne0 c).After-call_place-place in
+    let seen = read (goal.at.returns-in_err-done c).After-call_place-place in
     let served : Serves s c.if-applies.state c.if-applies.answer (applied_at c.event_in-event.result s.kind s.capacity s.object c.if-m-lt-NODES.node.req) =
     elim c.if-applies.branch [
-      | then-applies w ↦ serves_it now at seen c.same_event-applies.ensures w.if-applies.true w.served_by-applied.ensures w.answer-is w.state-is
-      | else-applies w ↦ serves_none _ _ _ _ _ (sym c.same_event-applies.ensures ∙ w.if-applies.false) w.answer-is w.state-is
+      | then-applies w ↦ serves_it now at seen (c.eq-applies.ensures ∙ events_equal _ Applies) w.if-applies.true w.served_by-applied.ensures w.unwrap_or-given.ensures w.answer-is w.state-is
+      | else-applies w ↦ serves_none _ _ _ _ _ (sym (c.eq-applies.ensures ∙ events_equal _ Applies) ∙ w.if-applies.false) w.answer-is w.state-is
     ] in
-    let acts : c.match-method.effect ≡ answered c.args.start.method s (thread_id (get_or c.args.schedule.now c.loop-i.i 0)) c.if-m-lt-NODES.node c.event_in-event.result c.call_place-place.result =
+    let says : Result After Refusal → Effect = said s (thread_id (get_or c.args.schedule.now c.loop-i.i 0)) c.if-m-lt-NODES.node in
+    let acts : says c.match-method.effect ≡ answered c.args.start.method s (thread_id (get_or c.args.schedule.now c.loop-i.i 0)) c.if-m-lt-NODES.node c.event_in-event.result c.call_place-place.result =
     elim c.match-method.branch [
-      | in-CcSynch w ↦ by_cc now at seen served w.in-CcSynch.is (w.effect-is ∙ w.executed-effect.ensures)
+      | in-CcSynch w ↦ by_cc now at seen served w.in-CcSynch.is (ap says w.effect-is ∙ w.executed.ensures)
       | in-DsmSynch w ↦
           by_dsm now at seen served w.in-DsmSynch.is
           (elim w.if-b-lt-NODES.branch [
             | then-b-lt-NODES v ↦ v.behind-is ∙ ap (λ (j : State). get_or j.nodes c.if-m-lt-NODES.node.next.0 zero_node) served.state
             | else-b-lt-NODES v ↦ read_there s.nodes (v.behind-is ∙ w.zero_node-behind.ensures) (omega (arith, long now at, v.if-b-lt-NODES.false))
           ])
-          (w.effect-is ∙ w.run_line-effect.ensures)
+          (ap says w.effect-is ∙ w.run_line-effect.ensures)
     ] in
-    c.unplayed.ensures ∙ looping_null now at (called_by seen acts refl refl refl refl) c.if-effect-ne0.true
+    let passed = err_from_is_err_and c.from_residual.result c.from_residual.ensures.1 in
+    rw (passed.1, passed.2) (looping_null now at (called_by seen (ap says (sym c.in_err-done.was) ∙ acts) refl refl refl refl) (fails c.in_err-done.field-0.0))
 
 pub bounds-kept-call : goal.bounds-kept-call
 bounds-kept-call c = call_small c
@@ -347,10 +365,10 @@ loop-i-preserved c =
     let all = (goal.at.loop-i-preserved c).After-call_place-call in
     let noted = c.note_entry.ensures in
     rw (stored all)
-    (looping_next c.loop-i.invariant c.loop-i-test.true (called all) (kept_is c) c.if-effect-ne0.false (serves all)
-    (ap (λ (l : List Node). set l c.written-written.result.0 c.match-method.effect.node) (nodes_same all)) c.plus-counts_after.ensures
+    (looping_next c.loop-i.invariant c.loop-i-test.true (called all) (kept_is c) refl (serves all)
+    (ap (λ (l : List Node). set l c.written-written.result.0 c.in_ok-done.done.node) (nodes_same all)) c.plus-counts_after.ensures
     (record {
-      of_applies = c.same_event-applies.ensures;
+      of_applies = c.eq-applies.ensures ∙ events_equal _ Applies;
       of_call = c.call_place-call.ensures;
       of_served = refl;
       of_assigned = c.assigned-assigned.ensures;

@@ -1,11 +1,7 @@
--- The loop of `from_start` keeps `Looping` of Running.antt, and the entries that are left fall. Assumes nothing.
-use Rattle.std.proofs.Common.{length, ◌-◌}
+-- The loop of `from_start` keeps `Looping` of Running.antt. Assumes nothing.
 use Rattle.runner.proofs.Running.{Looping}
 use Rattle.runner.proofs.from_start.Given as goal
 
 abbrev pub invariant-loop-i : goal.invariant-loop-i
 invariant-loop-i l =
     Looping l.schedule l.fn.start l.method l.rows l.spin_line l.n l.h l.kind l.capacity l.i l.state l.kept l.order l.given l.turns
-
-abbrev pub decreases-loop-i : goal.decreases-loop-i
-decreases-loop-i l = length l.schedule - l.i

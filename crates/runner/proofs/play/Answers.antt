@@ -1,14 +1,17 @@
 -- A file that is not refused is loaded, and its run starts from the machine that was made. Assumes nothing.
-use Rattle.std.proofs.Common.{◌≡◌, List, ℕ, ◌∙◌, get_or, ◌<◌, arith}
+use Rattle.std.proofs.Common.{◌≡◌, refl, List, ℕ, ◌∙◌, get_or, ◌<◌, arith}
 use Rattle.bench_file.specs.Layout.{judge_of}
 use Rattle.bench_file.proofs.Each.{each_at}
 use Rattle.loader.specs.declared.Loaded.{Loaded}
 use Rattle.loader.specs.Load.{loaded_as}
-use Rattle.runner.proofs.Playing.{Ready, ready, enough}
+use Rattle.runner.proofs.Playing.{Ready, ready, enough, refused_small}
 use Rattle.runner.proofs.play.Goals as goal
 
 loaded : (file : List ℕ) {l : Loaded} → ((i : ℕ) → get_or file i 0 < 256) → l ≡ loaded_as (judge_of file) → l.refusal ≡ 0 → Ready file (judge_of file) l
 loaded file bytes e none = ready file (each_at file bytes) e none
+
+pub refusal_of-requires : goal.refusal_of-requires
+refusal_of-requires c = refused_small c.args.file.now _ refl c.load-loaded.ensures c.if-loaded-ne0.true
 
 pub overflow_mul-loaded : goal.overflow_mul-loaded
 overflow_mul-loaded c =

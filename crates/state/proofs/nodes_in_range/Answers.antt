@@ -1,12 +1,12 @@
--- A node that is in range leaves those after it, and one that isn't decides. Assumes nothing.
-use Rattle.std.proofs.Common.{rules}
-use Rattle.state.proofs.Walks.{goes_on, fails}
+-- `all` asks each. Assumes nothing.
+use Rattle.std.proofs.Common.{◌∙◌, rules, tests}
+use Rattle.std.proofs.lemmas.Iterator.{YieldsList-from_slice}
+use Rattle.std.proofs.lemmas.Iterator.Search.{all_from_yields_List}
+use Rattle.state.specs.Range.{node_in_range}
+use Rattle.state.proofs.Every.{all_is_every}
 use Rattle.state.proofs.nodes_in_range.Goals as goal
 
-pub returns-then-not-node_in_range : goal.returns-then-not-node_in_range
-returns-then-not-node_in_range c =
-    fails c.loop-i.invariant _ c.loop-i-test.true (search rules) c.node_in_range.ensures c.if-not-node_in_range.true
-
-pub loop-i-preserved : goal.loop-i-preserved
-loop-i-preserved c =
-    goes_on c.loop-i.invariant _ c.loop-i-test.true (search rules) c.node_in_range.ensures c.if-not-node_in_range.false
+pub returns : goal.returns
+returns c =
+    let test = node_in_range c.args.kind c.args.capacity c.args.last in
+    all_from_yields_List test _ _ _ c.all.ensures.ran (YieldsList-from_slice c.args.nodes.now cc) (λ x b q k. search (rules, tests)) ∙ all_is_every test c.args.nodes.now

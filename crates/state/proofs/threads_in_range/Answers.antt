@@ -1,12 +1,12 @@
--- A thread that is in range leaves those after it, and one that isn't decides. Assumes nothing.
-use Rattle.std.proofs.Common.{rules}
-use Rattle.state.proofs.Walks.{goes_on, fails}
+-- `all` asks each. Assumes nothing.
+use Rattle.std.proofs.Common.{◌∙◌, rules, tests}
+use Rattle.std.proofs.lemmas.Iterator.{YieldsList-from_slice}
+use Rattle.std.proofs.lemmas.Iterator.Search.{all_from_yields_List}
+use Rattle.state.specs.Range.{thread_in_range}
+use Rattle.state.proofs.Every.{all_is_every}
 use Rattle.state.proofs.threads_in_range.Goals as goal
 
-pub returns-then-not-thread_in_range : goal.returns-then-not-thread_in_range
-returns-then-not-thread_in_range c =
-    fails c.loop-i.invariant _ c.loop-i-test.true (search rules) c.thread_in_range.ensures c.if-not-thread_in_range.true
-
-pub loop-i-preserved : goal.loop-i-preserved
-loop-i-preserved c =
-    goes_on c.loop-i.invariant _ c.loop-i-test.true (search rules) c.thread_in_range.ensures c.if-not-thread_in_range.false
+pub returns : goal.returns
+returns c =
+    let test = thread_in_range c.args.method c.args.last c.args.h in
+    all_from_yields_List test _ _ _ c.all.ensures.ran (YieldsList-from_slice c.args.threads.now cc) (λ x b q k. search (rules, tests)) ∙ all_is_every test c.args.threads.now

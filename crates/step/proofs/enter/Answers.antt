@@ -1,21 +1,39 @@
 -- What the calls answered makes the outcome. Assumes nothing.
-use Rattle.std.proofs.Common.{get_or, sym, ap, ◌∙◌, rules}
+use Rattle.std.proofs.Common.{◌≡◌, ℕ, List, get_or, sym, refl, ap, ◌∙◌, rules}
+use Rattle.std.proofs.lemmas.Result.{err_from_is_err_and}
+use Rattle.object.specs.declared.Answer.{Answer}
+use Rattle.object.specs.declared.Object.{Object}
+use Rattle.object.specs.Apply.{as_applied}
+use Rattle.object.proofs.Taken.{taken_answer, taken_object}
 use Rattle.machine.specs.declared.NodeId.{NodeId}
+use Rattle.machine.specs.Accesses.{accesses_of, written_of}
+use Rattle.machine.specs.Effect.{Effect, as_effect}
+use Rattle.methods.specs.Methods.{effect_by}
+use Rattle.copies.specs.Remote.{referred_by}
+use Rattle.state.specs.declared.Counts.{Counts}
 use Rattle.state.specs.Shape.{Shaped}
-use Rattle.step.specs.Entry.{zero_node}
+use Rattle.state.specs.Range.{counts_in_range}
+use Rattle.step.specs.Entry.{zero_node, zero_slot, more_of, plus, named}
+use Rattle.step.specs.Step.{refused}
 use Rattle.step.proofs.Entering.{place_few, Called, line_refused, counts_refused, accepted}
+use Rattle.step.proofs.Numbers.{fails, counts_past, counts_fit}
 use Rattle.step.proofs.enter.Goals as goal
-use Rattle.step.proofs.enter.Goals.{After-call_place-place, After-more_of-more}
+use Rattle.step.proofs.enter.Goals.{After-call_place-place, After-run_line}
 
 -- the lengths of the arrays, by their types
 shaped : (c : After-call_place-place) → Shaped c.args.state
 shaped c = search rules
 
-called : (c : After-more_of-more)
+-- the calls up to the line, and what follows of its effect
+called : (c : After-run_line) {e : Effect} {remote : ℕ} {copies : List ℕ} {w : NodeId} {more : Counts}
+    → e ≡ as_effect (named c.args.state c.args.thread) c.node_at-node.result c.args.state.tail c.run_line.result
+    → remote ≡ (referred_by c.args.state.method c.args.state.n c.args.thread.0 c.args.state.copies (accesses_of c.row_of-row.result c.pointed-target.result c.node_at-node.result.next)).remote
+    → copies ≡ (referred_by c.args.state.method c.args.state.n c.args.thread.0 c.args.state.copies (accesses_of c.row_of-row.result c.pointed-target.result c.node_at-node.result.next)).copies
+    → w ≡ written_of c.row_of-row.result c.pointed-target.result c.node_at-node.result.next
+    → more ≡ more_of c.event_in-event.result remote
     → Called c.args.state.method c.args.state c.args.thread c.line_run-line.result c.row_of-row.result c.pointed-target.result c.node_at-node.result
-    c.node_at-behind.result c.event_in-event.result c.call_place-place.result c.applied_at-applied.result c.run_line-effect.result
-    c.refer_all-remote.result c.refer_all-remote.new.copies c.written-written.result c.more_of-more.result
-called c = record {
+    c.node_at-behind.result c.event_in-event.result c.call_place-place.result (as_applied c.args.state.object c.applied_at-applied.result) e remote copies w more
+called c effect remote copies written more = record {
   line_run_lem = c.line_run-line.ensures;
   row_of = c.row_of-row.ensures;
   pointed_to = c.pointed-target.ensures;
@@ -24,11 +42,15 @@ called c = record {
   event_in = c.event_in-event.ensures;
   place = c.call_place-place.ensures;
   applied_at_lem = c.applied_at-applied.ensures;
-  effect_of = c.run_line-effect.ensures;
-  remote_of_lem = c.refer_all-remote.ensures.value;
-  copies_of = c.refer_all-remote.ensures.copies_after;
-  written_to = c.written-written.ensures;
-  more_of_lem = c.more_of-more.ensures;
+  effect_of =
+      let s = c.args.state in
+      effect ∙ c.run_line.ensures
+      ∙ ap (λ (answer : Answer). effect_by s.method c.args.thread.0 (named s c.args.thread) c.node_at-node.result c.node_at-behind.result s.tail s.h (get_or s.requests c.call_place-place.result zero_slot).request answer)
+      (ap (λ (given : Answer × Object). given.0) c.unwrap_or-answer.ensures ∙ taken_answer s.object c.applied_at-applied.result);
+  remote_of_lem = remote;
+  copies_of = copies;
+  written_to = written;
+  more_of_lem = more;
 }
 
 pub bounds-state-place : goal.bounds-state-place
@@ -36,23 +58,37 @@ bounds-state-place c =
     let s = c.args.state in
     place_few s.method s c.args.thread (shaped (goal.at.bounds-state-place c).After-call_place-place) c.requires.0 c.requires.1 c.call_place-place.ensures
 
-pub returns-then-effect-ne0 : goal.returns-then-effect-ne0
-returns-then-effect-ne0 c =
+pub returns-in_err-done : goal.returns-in_err-done
+returns-in_err-done c =
     let s = c.args.state in
-    c.refused.ensures
-    ∙ line_refused s.method s c.args.thread (shaped (goal.at.returns-then-effect-ne0 c).After-call_place-place) c.requires.0 c.requires.1
-    (called (goal.at.returns-then-effect-ne0 c).After-more_of-more) c.if-effect-ne0.true
+    let before = goal.at.returns-in_err-done c in
+    let passed = err_from_is_err_and c.from_residual.result c.from_residual.ensures.1 in
+    rw (passed.1, passed.2)
+    (line_refused s.method s c.args.thread (shaped before.After-call_place-place) c.requires.0 c.requires.1
+    (called before.After-run_line (ap (as_effect (named s c.args.thread) c.node_at-node.result s.tail) (sym c.in_err-done.was)) refl refl refl refl)
+    (fails c.in_err-done.field-0.0))
 
-pub returns-then-not-counts_fit : goal.returns-then-not-counts_fit
-returns-then-not-counts_fit c =
+pub returns-in_err-counts : goal.returns-in_err-counts
+returns-in_err-counts c =
     let s = c.args.state in
-    c.refused-then-not-counts_fit.ensures
-    ∙ counts_refused s.method s c.args.thread (shaped (goal.at.returns-then-not-counts_fit c).After-call_place-place) c.requires.0 c.requires.1
-    (called (goal.at.returns-then-not-counts_fit c).After-more_of-more) c.if-effect-ne0.false (sym c.counts_fit.ensures ∙ c.if-not-counts_fit.true)
+    let before = goal.at.returns-in_err-counts c in
+    let passed = err_from_is_err_and c.from_residual-in_err-counts.result c.from_residual-in_err-counts.ensures.1 in
+    let past = counts_past (counts_in_range (plus s.counts c.more_of-more.result)) (plus s.counts c.more_of-more.result) c.checked_plus.result c.ok_or.result c.checked_plus.ensures c.ok_or.ensures.value c.in_err-counts.was in
+    rw (passed.1, passed.2)
+    (ap (λ (k : ℕ). refused k s) past.1
+    ∙ counts_refused s.method s c.args.thread (shaped before.After-call_place-place) c.requires.0 c.requires.1
+    (called before.After-run_line (ap (as_effect (named s c.args.thread) c.node_at-node.result s.tail) (sym c.in_ok-done.was)) c.refer_all-remote.ensures.value
+    c.refer_all-remote.ensures.copies_after refl c.more_of-more.ensures)
+    refl past.0)
 
 pub returns : goal.returns
 returns c =
     let s = c.args.state in
-    accepted s.method s c.args.thread (shaped (goal.at.returns c).After-call_place-place) c.requires.0 c.requires.1
-    (called (goal.at.returns c).After-more_of-more) c.if-effect-ne0.false (sym c.counts_fit.ensures ∙ c.if-not-counts_fit.false)
-    c.nodes_with-nodes_after.ensures c.plus-counts_after.ensures
+    let before = goal.at.returns c in
+    let fit = counts_fit (counts_in_range (plus s.counts c.more_of-more.result)) (plus s.counts c.more_of-more.result) c.checked_plus.result c.ok_or.result c.checked_plus.ensures c.ok_or.ensures.value c.in_ok-counts.was in
+    accepted s.method s c.args.thread (shaped before.After-call_place-place) c.requires.0 c.requires.1
+    (called before.After-run_line (ap (as_effect (named s c.args.thread) c.node_at-node.result s.tail) (sym c.in_ok-done.was)) c.refer_all-remote.ensures.value
+    c.refer_all-remote.ensures.copies_after c.written-written.ensures c.more_of-more.ensures)
+    refl fit.0
+    (ap (λ (given : Answer × Object). given.1) c.unwrap_or-answer.ensures ∙ taken_object s.object c.applied_at-applied.result)
+    c.nodes_with-after.ensures fit.1
