@@ -29,7 +29,12 @@ fn refused(number: u8, state: State) -> Stepped
 }
 
 // A node's req applied to the object: the answer and the object after it.
-pub fn served_by(kind: Kind, capacity: u8, object: Object, req: Announced) -> Result<(Answer, Object), Refusal>
+pub fn served_by(
+    kind: Kind,
+    capacity: u8,
+    object: Object,
+    req: Announced,
+) -> Result<(Answer, Object), Refusal>
     ensures { as_applied object result ≡ served_by kind capacity object req }
 {
     match req {
@@ -39,7 +44,13 @@ pub fn served_by(kind: Kind, capacity: u8, object: Object, req: Announced) -> Re
 }
 
 // An entry that applies serves the node's req; any other leaves the object.
-fn applied_at(event: Event, kind: Kind, capacity: u8, object: Object, req: Announced) -> Result<(Answer, Object), Refusal>
+fn applied_at(
+    event: Event,
+    kind: Kind,
+    capacity: u8,
+    object: Object,
+    req: Announced,
+) -> Result<(Answer, Object), Refusal>
     ensures { as_applied object result ≡ applied_at event kind capacity object req }
 {
     if machine::same_event(event, Event::Applies) {
