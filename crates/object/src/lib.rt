@@ -1,7 +1,7 @@
 // The shared object: requests and answers, and the queue, the stack and the counter that a request is applied to.
 #![tactic(auto)]
 
-ghost use Rattle.std.specs.Prelude.{◌≡◌, ◌≤◌, ◌<◌};
+ghost use Rattle.std.specs.Prelude.{◌≡◌, ◌≤◌};
 ghost use Rattle.object.specs.Paper.{within, kind_number, kind_of, kind_judged, request_code, request_value, request_of, answer_mark, answer_value, least_code, most_code, code_known, value_allowed, least_capacity, most_capacity, capacity_allowed, answer_in_range};
 ghost use Rattle.object.specs.Plain.{fresh};
 ghost use Rattle.object.specs.Apply.{fresh_object, contents, knows, answered, put_of, take_first_of, take_last_of, take_of, add_of, held_in_range, applied_to, apply_of, as_applied, AppliesPlainly};

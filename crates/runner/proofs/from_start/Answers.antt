@@ -112,10 +112,10 @@ module _ {bytes : List ℕ} {start : State} {m : Method} {rows : List Row} {spin
 
   module _ {k c : ℕ} {r : Row} {p : NodeId} {x : Node} {ev : Event} (read : Read m s t k r p x ev c) where
     -- the branch for an entry that applies, and that for any other
-    serves_it : {J : State} {answer : Answer} {r : Result (Answer × Object) Refusal} {given : Answer × Object} {b : Bool} → b ≡ same_event ev Applies → b ≡ true
+    serves_it : {J : State} {answer : Answer} {given : Answer × Object} {b : Bool} (r : Result (Answer × Object) Refusal) → b ≡ same_event ev Applies → b ≡ true
         → as_applied s.object r ≡ served_by kind capacity s.object x.req → given ≡ result_unwrap_or r (Empty, s.object)
         → answer ≡ given.0 → J ≡ changed s given.1 s.nodes s.counts → Serves s J answer (applied_at ev s.kind s.capacity s.object x.req)
-    serves_it {J} {answer} {r} e q ob u a j =
+    serves_it {J} {answer} r e q ob u a j =
         serves_one s J answer ev x.req (sym e ∙ q) (ob ∙ ap₂ (λ (kind : Kind) (capacity : ℕ). served_by kind capacity s.object x.req) now.object now.room)
         (a ∙ ap (λ (g : Answer × Object). g.0) u ∙ taken_answer s.object r)
         (j ∙ ap (λ (g : Answer × Object). changed s g.1 s.nodes s.counts) u ∙ ap (λ (o : Object). changed s o s.nodes s.counts) (taken_object s.object r))
