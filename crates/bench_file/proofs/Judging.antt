@@ -6,6 +6,7 @@ use mathlib.Core.List.{List, [], ◌∷◌}
 use lib.ListN.{length, drop}
 use Rattle.object.specs.declared.Request.{Request}
 use Rattle.bench_file.specs.declared.Head.{Head}
+use Rattle.std.specs.Prelude.{Result, Ok, Err}
 use Rattle.bench_file.specs.declared.Judged.{Judged}
 use Rattle.bench_file.specs.Reading.{Outcome, refused, read, Reader, after, ◌>>=◌, ◌>>◌, done, several, end}
 use Rattle.bench_file.specs.Layout.{Fields, head_length, head_reader, row_reader, schedule_reader, file_reader, Judgement, accepted, refused_by, judged, judge_of}
@@ -40,22 +41,24 @@ pub judged_head : (s : List ℕ) (head : Head) → head_reader s ≡ read head (
 unfolding judge_of file_reader
 judged_head s head e = rw e (from_rows head (several head.n (row_reader head.object) (drop (head_length head.version) s)))
 
-pub judged_refused : (s : List ℕ) (refusal : ℕ) → head_reader s ≡ refused refusal → judged_as (judge_of s) ≡ Judged.Refused refusal
+pub judged_refused : (s : List ℕ) (refusal : ℕ) → head_reader s ≡ refused refusal → judged_as (judge_of s) ≡ Err refusal
 unfolding judge_of file_reader
 judged_refused s refusal e = rw e
 
 -- what the judge's answer says of the judgement
-pub apart : {head : Head} {requests entries number : ℕ} → Judged.Accepted head requests entries ≡ Judged.Refused number → ⊥
+pub apart : {judged : Judged} {number : ℕ} → ◌≡◌ {A = Result Judged ℕ} (Ok judged) (Err number) → ⊥
 apart e = let z : ◌≡◌ {A = ℕ} 0 1 = cc in omega arith
 
-pub head_of : (f : Fields) {head : Head} {requests entries : ℕ} → Judged.Accepted head requests entries ≡ judged_as (accepted f) → f.head ≡ head
-head_of f e = cc
+pub head_of : (f : Fields) {judged : Judged} → Ok judged ≡ judged_as (accepted f) → f.head ≡ judged.head
+head_of f {judged} e =
+    let z : judged ≡ record { head = f.head; requests = sum_of length f.rows; entries = length f.schedule } = cc in
+    ap (λ (j : Judged). j.head) (sym z)
 
-pub accepted_fields : (j : Judgement) {head : Head} {requests entries : ℕ} → Judged.Accepted head requests entries ≡ judged_as j → (f : Fields) × (j ≡ accepted f) × (f.head ≡ head)
+pub accepted_fields : (j : Judgement) {judged : Judged} → Ok judged ≡ judged_as j → (f : Fields) × (j ≡ accepted f) × (f.head ≡ judged.head)
 accepted_fields (accepted f) e = (f, refl, head_of f e)
 accepted_fields (refused_by number) e = absurd (apart e)
 
-pub refused_number : (j : Judgement) {number : ℕ} → Judged.Refused number ≡ judged_as j → j ≡ refused_by number
+pub refused_number : (j : Judgement) {number : ℕ} → Err number ≡ judged_as j → j ≡ refused_by number
 refused_number (accepted f) e = absurd (apart (sym e))
 refused_number (refused_by n) e = ap refused_by cc
 
@@ -65,7 +68,7 @@ number_of : (bs : List ℕ) (j : Judgement) → judge_of bs ≡ j
 number_of bs (accepted f) e = (λ z. absurd (z refl), λ z. (f, e))
 number_of bs (refused_by refusal) e = (λ z. refused_tabled bs refusal e, λ z. absurd (omega (arith, refused_tabled bs refusal e)))
 
-pub judges : (bs : List ℕ) {r : Judged} → Each Byte bs → r ≡ judged_as (judge_of bs) → Judges bs r
+pub judges : (bs : List ℕ) {r : Result Judged ℕ} → Each Byte bs → r ≡ judged_as (judge_of bs) → Judges bs r
 judges bs p e =
     let n = number_of bs (judge_of bs) refl in
     record {

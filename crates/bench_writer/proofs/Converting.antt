@@ -12,7 +12,8 @@ use Rattle.object.proofs.Within.{within_range}
 use Rattle.machine.specs.declared.Method.TheVariants.{CcSynch}
 use Rattle.machine.specs.Methods.{method_number}
 use Rattle.bench_file.specs.declared.Head.{Head}
-use Rattle.bench_file.specs.declared.Judged.TheVariants as Judged
+use Rattle.std.specs.Prelude.{Ok, Err}
+use Rattle.bench_file.specs.declared.Judged.{Judged}
 use Rattle.bench_file.specs.Layout.{Fields, head_length, version_known, Judgement, accepted, refused_by, judge_of}
 use Rattle.bench_file.specs.Bytes.{low_first, each_bytes, row_bytes, head_bytes, bytes_of, Byte, InRange, head_in, in_version}
 use Rattle.bench_file.specs.Promise.{judged_as}
@@ -111,7 +112,7 @@ module _ (bytes : List ℕ) (wanted room : ℕ) where
   unknown_version e = rw e
 
   module _ (known : version_known wanted ≡ true) where
-    pub own_refusal : {refusal : ℕ} → Judged.Refused refusal ≡ judged_as (judge_of bytes) → convert_of bytes wanted room ≡ refused_writing refusal
+    pub own_refusal : {refusal : ℕ} → Err refusal ≡ judged_as (judge_of bytes) → convert_of bytes wanted room ≡ refused_writing refusal
     unfolding convert_of
     own_refusal e = rw (known, refused_number (judge_of bytes) e)
 
@@ -120,8 +121,8 @@ module _ (bytes : List ℕ) (wanted room : ℕ) where
     unfolding convert_of
     with_head f p judged is = rw (known, judged, ← is) (head_inside bytes f p judged, by_head bytes f p judged wanted room)
 
-    pub own_head : {head : Head} {requests entries : ℕ} → Each Byte bytes → Judged.Accepted head requests entries ≡ judged_as (judge_of bytes)
-        → (head_length head.version ≤ length bytes) × (convert_of bytes wanted room ≡ head_converted wanted room head (drop (head_length head.version) bytes))
+    pub own_head : {answer : Judged} → Each Byte bytes → Ok answer ≡ judged_as (judge_of bytes)
+        → (head_length answer.head.version ≤ length bytes) × (convert_of bytes wanted room ≡ head_converted wanted room answer.head (drop (head_length answer.head.version) bytes))
     own_head p e = let (f, judged, is) = accepted_fields (judge_of bytes) e in with_head f p judged is
 
 -- what is written, where it is not refused

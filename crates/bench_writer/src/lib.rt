@@ -10,7 +10,7 @@ ghost use Rattle.bench_writer.specs.Buffer.{Fills};
 ghost use Rattle.bench_writer.specs.Convert.{head_converted, Converts};
 ghost use Rattle.bench_writer.specs.Writer.{pasted, total, most_method, number_rules, count_rules, requests_reader, entry_rules, interleaved, raw_bytes, given_by, given_reader, WritesAs};
 
-use bench_file::{Head, Judged, Reached};
+use bench_file::Head;
 use object::Kind;
 
 // The refusal, 0 for none, and how many bytes were written.
@@ -98,8 +98,8 @@ fn judge_requests(object: Kind, count: usize, requests: &[u8]) -> u8
         return 12;
     }
     match bench_file::read_request_row(requests, object, count) {
-        Reached::At { next: _, count: _ } => 0,
-        Reached::Refused(refusal) => refusal,
+        Ok(_) => 0,
+        Err(refusal) => refusal.number(),
     }
 }
 
@@ -317,11 +317,10 @@ pub fn convert(file: &[u8], wanted: u16, out: &mut [u8]) -> Written
         };
     }
     match bench_file::judge(file) {
-        Judged::Accepted {
-            head,
-            requests: _,
-            entries: _,
-        } => convert_head(file, head, wanted, out),
-        Judged::Refused(refusal) => Written { refusal, length: 0 },
+        Ok(judged) => convert_head(file, judged.head, wanted, out),
+        Err(refusal) => Written {
+            refusal: refusal.number(),
+            length: 0,
+        },
     }
 }

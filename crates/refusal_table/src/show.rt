@@ -1,7 +1,6 @@
 // What the judge and the writer answer, as words and numbers on standard output.
 ghost use Rattle.std.specs.Prelude.{◌<◌, ◌≤◌, length};
 
-use bench_file::Judged;
 use console::Output;
 
 fn wide(x: u8) -> u64 {
@@ -40,22 +39,17 @@ pub(crate) fn fill(row: &mut [u8], pattern: &[u8])
 pub(crate) fn judged(output: &mut Output, file: &[u8]) {
     output.text(b" judged");
     match bench_file::judge(file) {
-        Judged::Accepted {
-            head,
-            requests,
-            entries,
-        } => {
+        Ok(judged) => {
+            let head = judged.head;
             byte(output, 0);
             output.spaced(head.version as u64);
-            let kind = head.object;
-            let object = u8::from(kind);
-            let method = head.method;
-            let by = u8::from(method);
+            let object = u8::from(head.object);
+            let by = u8::from(head.method);
             bytes(output, &[object, head.n, head.h, head.capacity, by]);
-            output.spaced(requests as u64);
-            output.spaced(entries as u64);
+            output.spaced(judged.requests as u64);
+            output.spaced(judged.entries as u64);
         }
-        Judged::Refused(refusal) => byte(output, refusal),
+        Err(refusal) => byte(output, refusal.number()),
     }
 }
 
@@ -73,8 +67,8 @@ pub(crate) fn cuts(output: &mut Output, name: &[u8], file: &[u8]) {
 
 fn refusal(file: &[u8]) -> u8 {
     match bench_file::judge(file) {
-        Judged::Refused(refusal) => refusal,
-        _ => 0,
+        Ok(_) => 0,
+        Err(refusal) => refusal.number(),
     }
 }
 

@@ -1,8 +1,7 @@
 // A bench file's run from its fresh machine, in place: one local state stepped entry by entry, and what a record needs kept of each call.
 #![tactic(auto)]
 
-ghost use Rattle.std.specs.Prelude.{◌≡◌, ◌≤◌};
-ghost use Rattle.refusal.specs.Numbers.{number};
+ghost use Rattle.std.specs.Prelude.{◌≡◌};
 ghost use Rattle.bench_file.specs.Layout.{judge_of};
 ghost use Rattle.runner.specs.Played.{Startable, played_from, played_in, as_played};
 
@@ -144,39 +143,11 @@ fn from_start(schedule: &[u8], start: State) -> Result<Played, Refusal>
     })
 }
 
-// The refusal of a number, until the loader gives it.
-fn refusal_of(of: u8) -> Refusal
-    requires { (1 ≤ of) × (of ≤ 16) }
-    ensures { number result ≡ of }
-{
-    match of {
-        1 => Refusal::CutOff,
-        2 => Refusal::Mark,
-        3 => Refusal::Version,
-        4 => Refusal::Object,
-        5 => Refusal::Threads,
-        6 => Refusal::Bound,
-        7 => Refusal::Capacity,
-        8 => Refusal::Count,
-        9 => Refusal::Request,
-        10 => Refusal::ScheduleLength,
-        11 => Refusal::Entry,
-        12 => Refusal::Trailing,
-        13 => Refusal::Buffer,
-        14 => Refusal::OutOfRange,
-        15 => Refusal::Method,
-        _ => Refusal::Conversion,
-    }
-}
-
 // The run of any bytes as a bench file, with so many bytes lent for its records: those of a record for each request in the file, performed or not, else 13.
 pub fn play(file: &[u8], lent: usize) -> Result<Played, Refusal>
     ensures { as_played result ≡ played_in lent (judge_of file.now) }
 {
-    let loaded = loader::load(file);
-    if loaded.refusal != 0 {
-        return Err(refusal_of(loaded.refusal));
-    }
+    let loaded = loader::load(file)?;
     if lent < kept::RECORD_LENGTH * loaded.requests {
         return Err(Refusal::Buffer);
     }

@@ -14,18 +14,19 @@ pub convert_head-requires : goal.convert_head-requires
 convert_head-requires c =
     let a = c.args in
     let p = each_at a.file.now (λ i. omega (arith, c.type_inv.file i)) in
-    (own_head a.file.now a.wanted (length a.out.now) (sym c.version_known.ensures ∙ c.if-not-version_known.false) p c.in-Accepted.ensures.answer).0
+    (own_head a.file.now a.wanted (length a.out.now) (sym c.version_known.ensures ∙ c.if-not-version_known.false) p c.in-Ok.ensures.answer).0
 
-pub returns-in-Accepted : goal.returns-in-Accepted
-returns-in-Accepted c =
+pub returns-in-Ok : goal.returns-in-Ok
+returns-in-Ok c =
     let a = c.args in
     let p = each_at a.file.now (λ i. omega (arith, c.type_inv.file i)) in
-    let told = own_head a.file.now a.wanted (length a.out.now) (sym c.version_known.ensures ∙ c.if-not-version_known.false) p c.in-Accepted.ensures.answer in
+    let told = own_head a.file.now a.wanted (length a.out.now) (sym c.version_known.ensures ∙ c.if-not-version_known.false) p c.in-Ok.ensures.answer in
     converts _ _ _ _ _ p (filled_as c.convert_head.ensures (sym told.1))
 
-pub returns-in-Refused : goal.returns-in-Refused
-returns-in-Refused c =
+pub returns-in-Err : goal.returns-in-Err
+returns-in-Err c =
     let a = c.args in
     let p = each_at a.file.now (λ i. omega (arith, c.type_inv.file i)) in
-    converts _ _ _ _ _ p
-    (fills (own_refusal a.file.now a.wanted (length a.out.now) (sym c.version_known.ensures ∙ c.if-not-version_known.false) c.in-Refused.ensures.answer) refl refl refl)
+    rw c.number.ensures
+    (converts _ _ _ _ _ p
+    (fills (own_refusal a.file.now a.wanted (length a.out.now) (sym c.version_known.ensures ∙ c.if-not-version_known.false) c.in-Err.ensures.answer) refl refl refl))

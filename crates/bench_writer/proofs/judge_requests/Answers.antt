@@ -19,17 +19,18 @@ unfolding requests_reader
 returns-then-count-requests c =
     simp (le-leb _ _ c.if-requests-count.false, lt-leb _ _ c.if-count-requests.true)
 
-pub returns-in-At : goal.returns-in-At
+pub returns-in-Ok : goal.returns-in-Ok
 unfolding requests_reader
-returns-in-At c =
+returns-in-Ok c =
     let a = c.args in
     simp (le-leb _ _ c.if-requests-count.false, le-leb _ _ c.if-count-requests.false)
-    (ap forgotten c.in-At.ensures.result_value ∙ forgotten_tallied (sum_of single) (several a.count (request_reader a.object) a.requests.now))
+    (ap forgotten c.in-Ok.ensures.result_value ∙ forgotten_tallied (sum_of single) (several a.count (request_reader a.object) a.requests.now))
 
-pub returns-in-Refused : goal.returns-in-Refused
+pub returns-in-Err : goal.returns-in-Err
 unfolding requests_reader
-returns-in-Refused c =
+returns-in-Err c =
     let a = c.args in
-    let e = c.in-Refused.ensures.result_value in
-    simp (le-leb _ _ c.if-requests-count.false, le-leb _ _ c.if-count-requests.false, ne_eqb _ _ (tallied_numbered (sum_of single) (several_numbered (request_numbered a.object) a.count) a.requests.now (sym e)))
-    (ap forgotten e ∙ forgotten_tallied (sum_of single) (several a.count (request_reader a.object) a.requests.now))
+    let e = c.in-Err.ensures.result_value in
+    rw c.number.ensures
+    (simp (le-leb _ _ c.if-requests-count.false, le-leb _ _ c.if-count-requests.false, ne_eqb _ _ (tallied_numbered (sum_of single) (several_numbered (request_numbered a.object) a.count) a.requests.now (sym e)))
+    (ap forgotten e ∙ forgotten_tallied (sum_of single) (several a.count (request_reader a.object) a.requests.now)))

@@ -1,34 +1,37 @@
 -- A file that is not refused is loaded, and its run starts from the machine that was made. Assumes nothing.
-use Rattle.std.proofs.Common.{◌≡◌, refl, List, ℕ, ◌∙◌, get_or, ◌<◌, arith}
+use Rattle.std.proofs.Common.{◌≡◌, List, ℕ, ◌∙◌, get_or, ◌<◌, arith, Ok}
+use Rattle.std.proofs.lemmas.Result.{err_from_is_err_and}
 use Rattle.bench_file.specs.Layout.{judge_of}
 use Rattle.bench_file.proofs.Each.{each_at}
 use Rattle.loader.specs.declared.Loaded.{Loaded}
 use Rattle.loader.specs.Load.{loaded_as}
-use Rattle.runner.proofs.Playing.{Ready, ready, enough, refused_small}
+use Rattle.runner.proofs.Playing.{Ready, ready, refused_plays, enough}
 use Rattle.runner.proofs.play.Goals as goal
 
-loaded : (file : List ℕ) {l : Loaded} → ((i : ℕ) → get_or file i 0 < 256) → l ≡ loaded_as (judge_of file) → l.refusal ≡ 0 → Ready file (judge_of file) l
-loaded file bytes e none = ready file (each_at file bytes) e none
+loaded : (file : List ℕ) {l : Loaded} → ((i : ℕ) → get_or file i 0 < 256) → Ok l ≡ loaded_as (judge_of file) → Ready file (judge_of file) l
+loaded file bytes e = ready file (each_at file bytes) e
 
-pub refusal_of-requires : goal.refusal_of-requires
-refusal_of-requires c = refused_small c.args.file.now _ refl c.load-loaded.ensures c.if-loaded-ne0.true
+pub returns-in_err-loaded : goal.returns-in_err-loaded
+returns-in_err-loaded c =
+    let p = err_from_is_err_and c.from_residual.result c.from_residual.ensures.1 in
+    rw (p.1, p.2) (refused_plays _ _ c.in_err-loaded.ensures)
 
 pub overflow_mul-loaded : goal.overflow_mul-loaded
 overflow_mul-loaded c =
-    let now = loaded c.args.file.now (λ i. omega (arith, c.type_inv.file i)) c.load-loaded.ensures c.if-loaded-ne0.false in
+    let now = loaded c.args.file.now (λ i. omega (arith, c.type_inv.file i)) c.in_ok-loaded.ensures in
     omega (arith, now.few)
 
 pub overflow_sub-first : goal.overflow_sub-first
 overflow_sub-first c =
-    let now = loaded c.args.file.now (λ i. omega (arith, c.type_inv.file i)) c.load-loaded.ensures c.if-loaded-ne0.false in
+    let now = loaded c.args.file.now (λ i. omega (arith, c.type_inv.file i)) c.in_ok-loaded.ensures in
     now.entries
 
 pub from_start-requires : goal.from_start-requires
 from_start-requires c =
-    let now = loaded c.args.file.now (λ i. omega (arith, c.type_inv.file i)) c.load-loaded.ensures c.if-loaded-ne0.false in
+    let now = loaded c.args.file.now (λ i. omega (arith, c.type_inv.file i)) c.in_ok-loaded.ensures in
     now.start
 
 pub returns : goal.returns
 returns c =
-    let now = loaded c.args.file.now (λ i. omega (arith, c.type_inv.file i)) c.load-loaded.ensures c.if-loaded-ne0.false in
+    let now = loaded c.args.file.now (λ i. omega (arith, c.type_inv.file i)) c.in_ok-loaded.ensures in
     c.from_start.ensures ∙ now.played ∙ enough now _ c.if-lent-loaded.false
