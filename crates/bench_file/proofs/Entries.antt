@@ -1,40 +1,25 @@
 -- The entries of a schedule, judged in one pass over those that are there: laws of a loop that tests every byte of a list, and of so many bytes that are
 -- read by one rule. Assumes nothing.
-use Prim.Native.Nat.{ℕ, zero, suc, ◌+◌, ◌-◌, ◌≤◌, ◌<◌, min}
+use Prim.Native.Nat.{ℕ, zero, suc, ◌≤◌, ◌<◌, min}
 use native.Mathlib.Nat.{le_of_suc-le-suc, not-suc-le-zero}
 use native.Mathlib.Omega.{arith}
-use mathlib.Core.Path.{◌≡◌, refl, sym, ◌∙◌}
+use mathlib.Core.Path.{◌≡◌, refl, sym, ap, ◌∙◌}
 use mathlib.Core.Bool.{Bool, true, false, ◌&&◌, and-true, and_assoc, and-eq-true_iff, false≢true}
-use mathlib.Core.List.{List, [], ◌∷◌}
-use lib.ListN.{length, get_or, take, drop, length-drop, drop_of_length-le}
-use lib.Seq.{length-take-le, take_all, drop-drop}
+use mathlib.Core.List.{List, [], ◌∷◌, ◌++◌}
+use lib.ListN.{length, take, drop}
+use lib.Seq.{length-take-le, take_all}
 use lib.Dec.{ltb}
 use Rattle.object.specs.Each.{every, sum_of}
 use Rattle.object.proofs.Choice.{by_test}
 use Rattle.bench_file.specs.Reading.{refused, read, byte, ruled_byte, several}
 use Rattle.bench_file.specs.Layout.{entry_reader}
 use Rattle.bench_file.specs.Cursor.{tallied, single}
-use Rattle.bench_file.proofs.Reading.{cons_at}
 use Rattle.bench_file.proofs.Passes.{single_length}
 
--- what a loop that tests every byte keeps at place i: what it found and what is left decide the whole
-module _ (test : ℕ → Bool) (bs : List ℕ) where
-  pub record Testing (fine : Bool) (i : ℕ) : Type 0 where
-    pub passed : i ≤ length bs
-    pub left : fine && every test (drop i bs) ≡ every test bs
-
-  pub testing_begins : Testing true 0
-  testing_begins = record { passed = omega arith; left = refl }
-
-  module _ {fine : Bool} {i : ℕ} (t : Testing fine i) where
-    pub testing_goes_on : i < length bs → Testing (fine && test (get_or bs i 0)) (i + 1)
-    testing_goes_on h = record {
-      passed = omega arith;
-      left = and_assoc fine (test (get_or bs i 0)) (every test (drop (i + 1) bs)) ∙ rw cons_at at t.left;
-    }
-
-    pub testing_ends : length bs ≤ i → fine ≡ every test bs
-    testing_ends h = sym (and-true fine) ∙ rw drop_of_length-le at t.left
+-- one byte more is tested
+pub every_snoc : (test : ℕ → Bool) (bs : List ℕ) (b : ℕ) → every test (bs ++ b ∷ []) ≡ every test bs && test b
+every_snoc test [] b = and-true (test b)
+every_snoc test (a ∷ bs) b = ap (λ (t : Bool). test a && t) (every_snoc test bs b) ∙ sym (and_assoc (test a) (every test bs) (test b))
 
 -- so many bytes by one rule: all are there and pass
 module _ (refusal : ℕ) (test : ℕ → Bool) where

@@ -1,7 +1,6 @@
 -- Laws of the readers of specs/Reading.antt at a place of a file: what a field finds there. Assumes nothing.
 use Prim.Native.Nat.{ℕ, zero, suc, ◌+◌, ◌*◌, ◌≤◌, ◌<◌}
 use native.Mathlib.Nat.{le_of_suc-le-suc, not-suc-le-zero}
-use native.Mathlib.Decide.{dec_le}
 use native.Mathlib.Numerals.{add-one, add-two, add-three}
 use native.Mathlib.Omega.{arith}
 use mathlib.Core.Path.{◌≡◌, refl, sym, ◌∙◌}
@@ -73,14 +72,6 @@ module _ (s : List ℕ) (at : ℕ) where
     pub ruled_out : at < length s → test (get_or s at 0) ≡ false → ruled_byte refusal test (drop at s) ≡ refused refusal
     unfolding ruled_byte
     ruled_out h e = after_read_lem _ (byte_at h) ∙ rule_broken refusal (drop (at + 1) s) _ e
-
--- a byte that was read lies within the bytes
-pub inside : (s : List ℕ) (at refusal : ℕ) (test : ℕ → Bool) {b : ℕ} {rest : List ℕ} → ruled_byte refusal test (drop at s) ≡ read b rest → at < length s
-inside s at refusal test {b} {rest} e =
-    elim (dec_le (length s) at) [
-      | yes h ↦ let z : ◌≡◌ {A = ℕ} 0 1 = cc (ruled_cut s at refusal test h) in absurd (omega arith)
-      | no h ↦ omega arith
-    ]
 
 -- a number of bytes at a place has its lowest byte first; bytes past the end count as 0
 low_at : (s : List ℕ) (at width : ℕ) → little_endian (take (suc width) (drop at s)) ≡ get_or s at 0 + 256 * little_endian (take width (drop (suc at) s))

@@ -43,20 +43,14 @@ pub struct Judged {
 pub fn head_bytes(version: u16) -> usize
     ensures { result ≡ head_length version }
 {
-    if version == 1 {
-        return 9;
-    }
-    10
+    if version == 1 { 9 } else { 10 }
 }
 
 // Whether a version is 1 or 2.
 pub fn version_known(version: u16) -> bool
     ensures { result ≡ version_known version }
 {
-    if version < 1 {
-        return false;
-    }
-    version <= 2
+    (1..=2).contains(&version)
 }
 
 // The field of one byte at a place: 1 where it is cut off, the given refusal where it is outside its range.
@@ -168,7 +162,11 @@ fn read_request(s: &[u8], object: Kind) -> Result<Reached, Refusal>
 }
 
 // So many of a kind, one after the other.
-fn read_several<F: Fn(&[u8]) -> Result<Reached, Refusal>>(s: &[u8], count: usize, read: F) -> Result<Reached, Refusal>
+fn read_several<F: Fn(&[u8]) -> Result<Reached, Refusal>>(
+    s: &[u8],
+    count: usize,
+    read: F,
+) -> Result<Reached, Refusal>
     requires callable { F.IsAlwaysCallable read }
     requires goes_ahead { (part : _) (r : _) → F.post read part r → Ahead part.now r }
     ensures result_value { (reader : Reader ℕ) → ((part : _) (r : _) → F.post read part r → reached part.now r ≡ reader part.now) → reached s.now result ≡ tallied (sum_of same) (several count reader s.now) }
@@ -213,17 +211,11 @@ fn read_rows(s: &[u8], object: Kind, n: u8) -> Result<Reached, Refusal>
     read_several(s, n as usize, |s| read_row(s, object))
 }
 
-// Whether every byte of a row, of entries or of counts, is below a bound. The loop has no early exit, so that many bytes are compared at once.
+// Whether every byte of a row, of entries or of counts, is below a bound. There is no early exit, so that many bytes are compared at once.
 pub fn every_below(row: &[u8], bound: u8) -> bool
     ensures { result ≡ every (λ x. ltb x bound) row.now }
 {
-    let mut fine = true;
-    let mut i = 0usize;
-    while i < row.len() {
-        fine = fine & (row[i] < bound);
-        i += 1;
-    }
-    fine
+    row.iter().fold(true, |fine, b| fine & (*b < bound))
 }
 
 // So many entries. Those that are there are judged first: one that is not below n comes before the end that cuts off a later one.

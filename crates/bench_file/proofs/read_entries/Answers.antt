@@ -1,6 +1,5 @@
 -- Each return is one law of the entries: those that are there are all that are left, or as many as are asked for. Assumes nothing.
-use Rattle.std.proofs.Common.{◌≡◌, length, min, arith}
-use Rattle.bench_file.proofs.Entries.{Tested, entries_read, entries_cut, entries_out}
+use Rattle.bench_file.proofs.Entries.{entries_read, entries_cut, entries_out}
 use Rattle.bench_file.proofs.read_entries.Goals as goal
 
 pub returns-then-not-every_below-clause-result_value : goal.returns-then-not-every_below-clause-result_value

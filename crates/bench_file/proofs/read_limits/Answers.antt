@@ -5,7 +5,7 @@ use Rattle.object.specs.declared.Kind.{Kind}
 use Rattle.object.specs.Paper.{least_capacity, most_capacity}
 use Rattle.bench_file.specs.Reading.{read, after, done, ranged}
 use Rattle.bench_file.specs.Layout.{method_reader, limits_reader}
-use Rattle.bench_file.proofs.Reading.{after_read_lem, after_refused, inside}
+use Rattle.bench_file.proofs.Reading.{after_read_lem, after_refused}
 use Rattle.bench_file.proofs.read_limits.Goals as goal
 
 -- behind the capacity the method is left to read

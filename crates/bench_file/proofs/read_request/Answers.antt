@@ -1,9 +1,9 @@
 -- Each return is one law of `request_reader` behind its code. Assumes nothing.
-use Rattle.std.proofs.Common.{ℕ, ◌<◌, length, sym, ◌∙◌, ap, arith}
+use Rattle.std.proofs.Common.{ℕ, sym, ◌∙◌, ap}
 use Rattle.refusal.proofs.Numbers.{passed_on}
 use Rattle.object.specs.Paper.{value_allowed}
 use Rattle.bench_file.specs.Layout.{request_reader}
-use Rattle.bench_file.proofs.Reading.{inside, four_at}
+use Rattle.bench_file.proofs.Reading.{four_at}
 use Rattle.bench_file.proofs.Request.{request_cut, request_allowed, request_denied}
 use Rattle.bench_file.proofs.read_request.Goals as goal
 
@@ -16,8 +16,7 @@ returns-in_err-code-clause-result_value c =
 pub returns-then-s-lt5-clause-result_value : goal.returns-then-s-lt5-clause-result_value
 returns-then-s-lt5-clause-result_value c =
     let code = rw (c.least_code-least.ensures, c.most_code-most.ensures) at (sym c.in_ok-code.ensures.result_value) in
-    let h : 0 < length c.args.s.now = inside c.args.s.now 0 9 _ code in
-    rw (request_cut c.args.s.now c.args.object code h c.if-s-lt5.true)
+    rw (request_cut c.args.s.now c.args.object code c.in_ok-code.ensures.inside c.if-s-lt5.true)
 
 pub returns-then-value_allowed-clause-result_value : goal.returns-then-value_allowed-clause-result_value
 returns-then-value_allowed-clause-result_value c =

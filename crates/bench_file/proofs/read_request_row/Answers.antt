@@ -1,6 +1,5 @@
 -- A call of the closure reads one request. Assumes nothing.
 use Rattle.std.proofs.Common.{◌∙◌, rules}
-use Rattle.bench_file.specs.Reading.{Reader}
 use Rattle.bench_file.specs.Layout.{request_reader}
 use Rattle.bench_file.specs.Cursor.{tallied, single}
 use Rattle.bench_file.proofs.Passes.{several_tallied}

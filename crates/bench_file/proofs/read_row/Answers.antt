@@ -1,5 +1,5 @@
 -- A count, and then so many requests. Assumes nothing.
-use Rattle.std.proofs.Common.{◌≡◌, ℕ, List, length, drop, sym, ap, ◌∙◌, arith}
+use Rattle.std.proofs.Common.{◌≡◌, ℕ, List, length, drop, sym, ◌∙◌, arith}
 use Rattle.std.proofs.lemmas.Slice.{between_to_end}
 use Rattle.refusal.proofs.Numbers.{passed_on}
 use Rattle.object.specs.declared.Kind.{Kind}

@@ -1,5 +1,5 @@
 -- One that is read is one pass more, one that is refused ends the reading. Assumes nothing.
-use Rattle.std.proofs.Common.{arith, rules}
+use Rattle.std.proofs.Common.{arith}
 use Rattle.std.proofs.lemmas.Slice.{between_to_end}
 use Rattle.refusal.proofs.Numbers.{passed_on}
 use Rattle.bench_file.proofs.Passes.{begins, passes, refuses, ends}
