@@ -1,40 +1,25 @@
 -- The entries of a schedule, judged in one pass over those that are there: laws of a loop that tests every byte of a list, and of so many bytes that are
 -- read by one rule. Assumes nothing.
-use Prim.Native.Nat.{ℕ, zero, suc, ◌+◌, ◌-◌, ◌≤◌, ◌<◌, min}
+use Prim.Native.Nat.{ℕ, zero, suc, ◌≤◌, ◌<◌, min}
 use native.Mathlib.Nat.{le_of_suc-le-suc, not-suc-le-zero}
 use native.Mathlib.Omega.{arith}
-use mathlib.Core.Path.{◌≡◌, refl, sym, ◌∙◌}
+use mathlib.Core.Path.{◌≡◌, refl, sym, ap, ◌∙◌}
 use mathlib.Core.Bool.{Bool, true, false, ◌&&◌, and-true, and_assoc, and-eq-true_iff, false≢true}
-use mathlib.Core.List.{List, [], ◌∷◌}
-use lib.ListN.{length, get_or, take, drop, length-drop, drop_of_length-le}
-use lib.Seq.{length-take-le, take_all, drop-drop}
+use mathlib.Core.List.{List, [], ◌∷◌, ◌++◌}
+use lib.ListN.{length, take, drop}
+use lib.Seq.{length-take-le, take_all}
 use lib.Dec.{ltb}
 use Rattle.object.specs.Each.{every, sum_of}
 use Rattle.object.proofs.Choice.{by_test}
 use Rattle.bench_file.specs.Reading.{refused, read, byte, ruled_byte, several}
 use Rattle.bench_file.specs.Layout.{entry_reader}
 use Rattle.bench_file.specs.Cursor.{tallied, single}
-use Rattle.bench_file.proofs.Reading.{cons_at}
 use Rattle.bench_file.proofs.Passes.{single_length}
 
--- what a loop that tests every byte keeps at place i: what it found and what is left decide the whole
-module _ (test : ℕ → Bool) (bs : List ℕ) where
-  pub record Testing (fine : Bool) (i : ℕ) : Type 0 where
-    pub passed : i ≤ length bs
-    pub left : fine && every test (drop i bs) ≡ every test bs
-
-  pub testing_begins : Testing true 0
-  testing_begins = record { passed = omega arith; left = refl }
-
-  module _ {fine : Bool} {i : ℕ} (t : Testing fine i) where
-    pub testing_goes_on : i < length bs → Testing (fine && test (get_or bs i 0)) (i + 1)
-    testing_goes_on h = record {
-      passed = omega arith;
-      left = and_assoc fine (test (get_or bs i 0)) (every test (drop (i + 1) bs)) ∙ rw cons_at at t.left;
-    }
-
-    pub testing_ends : length bs ≤ i → fine ≡ every test bs
-    testing_ends h = sym (and-true fine) ∙ rw drop_of_length-le at t.left
+-- one byte more is tested
+pub every_snoc : (test : ℕ → Bool) (bs : List ℕ) (b : ℕ) → every test (bs ++ b ∷ []) ≡ every test bs && test b
+every_snoc test [] b = and-true (test b)
+every_snoc test (a ∷ bs) b = ap (λ (t : Bool). test a && t) (every_snoc test bs b) ∙ sym (and_assoc (test a) (every test bs) (test b))
 
 -- so many bytes by one rule: all are there and pass
 module _ (refusal : ℕ) (test : ℕ → Bool) where
@@ -64,25 +49,24 @@ module _ (refusal : ℕ) (test : ℕ → Bool) where
   one_fails (suc there) (suc count) (b ∷ bs) h e =
       by_test (test b) (λ p. rw (p, one_fails there count bs (le_of_suc-le-suc h) (rw p at e))) (λ p. rw p)
 
--- of so many entries at a place, the first `there` are there, and `fine` says whether each of these is below n
-pub record Tested (n : ℕ) (s : List ℕ) (at count there : ℕ) (fine : Bool) : Type 0 where
-  pub least : there ≡ min (length s - at) count
-  pub found : fine ≡ every (λ thread. ltb thread n) (take there (drop at s))
+-- of so many entries, the first `there` are there, and `fine` says whether each of these is below n
+pub record Tested (n : ℕ) (s : List ℕ) (count there : ℕ) (fine : Bool) : Type 0 where
+  pub least : there ≡ min (length s) count
+  pub found : fine ≡ every (λ thread. ltb thread n) (take there s)
 
 -- which of the three outcomes the entries have
-module _ {n : ℕ} {s : List ℕ} {at count there : ℕ} {fine : Bool} (d : Tested n s at count there fine) where
-  pub entries_read : count ≤ there → fine ≡ true → read count (drop (at + count) s) ≡ tallied (sum_of single) (several count (entry_reader n) (drop at s))
+module _ {n : ℕ} {s : List ℕ} {count there : ℕ} {fine : Bool} (d : Tested n s count there fine) where
+  pub entries_read : count ≤ there → fine ≡ true → read count (drop count s) ≡ tallied (sum_of single) (several count (entry_reader n) s)
   entries_read h t =
-      let all : there ≡ count = omega arith in
-      let inside : count ≤ length (drop at s) = rw length-drop (omega arith) in
-      let pass : every (λ thread. ltb thread n) (take count (drop at s)) ≡ true = rw (← all) (sym d.found ∙ t) in
-      rw (all_pass 11 (λ thread. ltb thread n) count (drop at s) inside pass, single_length, length-take-le count (drop at s) inside, drop-drop)
+      let all : there ≡ count = omega (arith, d.least) in
+      let inside : count ≤ length s = omega (arith, d.least) in
+      let pass : every (λ thread. ltb thread n) (take count s) ≡ true = rw (← all) (sym d.found ∙ t) in
+      rw (all_pass 11 (λ thread. ltb thread n) count s inside pass, single_length, length-take-le count s inside)
 
-  pub entries_cut : there < count → fine ≡ true → refused 1 ≡ tallied (sum_of single) (several count (entry_reader n) (drop at s))
+  pub entries_cut : there < count → fine ≡ true → refused 1 ≡ tallied (sum_of single) (several count (entry_reader n) s)
   entries_cut h t =
-      let all : length (drop at s) ≡ there = rw length-drop (omega arith) in
-      let pass : every (λ thread. ltb thread n) (drop at s) ≡ true = rw (← take_all there (drop at s) (omega arith)) (sym d.found ∙ t) in
-      rw (cut_off 11 (λ thread. ltb thread n) count (drop at s) (omega arith) pass)
+      let pass : every (λ thread. ltb thread n) s ≡ true = rw (← take_all there s (omega (arith, d.least))) (sym d.found ∙ t) in
+      rw (cut_off 11 (λ thread. ltb thread n) count s (omega (arith, d.least)) pass)
 
-  pub entries_out : fine ≡ false → refused 11 ≡ tallied (sum_of single) (several count (entry_reader n) (drop at s))
-  entries_out t = rw (one_fails 11 (λ thread. ltb thread n) there count (drop at s) (omega arith) (sym d.found ∙ t))
+  pub entries_out : fine ≡ false → refused 11 ≡ tallied (sum_of single) (several count (entry_reader n) s)
+  entries_out t = rw (one_fails 11 (λ thread. ltb thread n) there count s (omega (arith, d.least)) (sym d.found ∙ t))

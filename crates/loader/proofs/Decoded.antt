@@ -1,17 +1,15 @@
 -- The requests that bytes hold: what stands at a place, and that reading is inverse to the bytes of a row. Assumes nothing.
 use Prim.Native.Nat.{ℕ, suc, ◌+◌, ◌*◌, ◌-◌, ◌<◌}
-use native.Mathlib.Nat.{add-zero}
 use native.Mathlib.Omega.{arith}
 use mathlib.Core.Path.{◌≡◌, refl, sym}
 use mathlib.Core.List.{List, [], ◌∷◌, ◌++◌, map}
-use lib.ListN.{length, get_or, take, drop, set}
-use lib.Seq.{sets, get_or-drop, drop-drop}
+use lib.ListN.{length, drop, set}
+use lib.Seq.{sets, drop-drop}
 use Rattle.object.specs.declared.Kind.{Kind}
 use Rattle.object.specs.declared.Request.{Request}
 use Rattle.object.specs.Each.{Each}
-use Rattle.object.specs.Paper.{request_of, request_value}
+use Rattle.object.specs.Paper.{request_value}
 use Rattle.object.proofs.Inverse.{request_told}
-use Rattle.bench_file.specs.Reading.{little_endian}
 use Rattle.bench_file.specs.Bytes.{low_first, each_bytes, request_bytes, RequestInRange}
 use Rattle.bench_file.proofs.Each.{low_value}
 use Rattle.bench_file.proofs.RoundTrip.{request_range}
@@ -19,29 +17,15 @@ use Rattle.state.specs.declared.Slot.{Slot}
 use Rattle.claims.proofs.Start.{slot_of}
 use Rattle.loader.specs.Load.{request_in, slots_in}
 
--- the value of a request's bytes, byte by byte
-value_in : (l : List ℕ) → little_endian (take 4 (drop 1 l)) ≡ get_or l 1 0 + 256 * (get_or l 2 0 + 256 * (get_or l 3 0 + 256 * get_or l 4 0))
-unfolding little_endian
-value_in [] = refl
-value_in (a ∷ []) = refl
-value_in (a ∷ b ∷ []) = refl
-value_in (a ∷ b ∷ c ∷ []) = refl
-value_in (a ∷ b ∷ c ∷ d ∷ []) = refl
-value_in (a ∷ b ∷ c ∷ d ∷ e ∷ l) = omega arith
-
-pub request_there : (s : List ℕ) (at : ℕ) {value : ℕ} → value ≡ get_or s (at + 1) 0 + 256 * (get_or s (at + 2) 0 + 256 * (get_or s (at + 3) 0 + 256 * get_or s (at + 4) 0))
-    → request_of (get_or s at 0) value ≡ request_in (drop at s)
-request_there s at e = rw (value_in, e) (simp (get_or-drop, add-zero))
-
 -- one request more is laid
-pub laid_more : (rows : List Slot) (first : ℕ) (s : List ℕ) (at count k : ℕ) {request : Request} → k < count → request ≡ request_in (drop (at + 5 * k) s)
-    → sets (set rows (first + k) (record { request = request })) (first + (k + 1)) (slots_in (count - (k + 1)) (drop (at + 5 * (k + 1)) s))
-    ≡ sets rows (first + k) (slots_in (count - k) (drop (at + 5 * k) s))
-laid_more rows first s at count k h e =
+pub laid_more : (rows : List Slot) (first : ℕ) (bytes : List ℕ) (count k : ℕ) {request : Request} → k < count → request ≡ request_in (drop (5 * k) bytes)
+    → sets (set rows (first + k) (record { request = request })) (first + (k + 1)) (slots_in (count - (k + 1)) (drop (5 * (k + 1)) bytes))
+    ≡ sets rows (first + k) (slots_in (count - k) (drop (5 * k) bytes))
+laid_more rows first bytes count k h e =
     let left : count - k ≡ suc (count - (k + 1)) = omega arith in
     let place : first + (k + 1) ≡ suc (first + k) = omega arith in
-    let next : at + 5 * (k + 1) ≡ at + 5 * k + 5 = omega arith in
-    rw (left, place, next, ← drop-drop 5 (at + 5 * k) s, e)
+    let next : 5 * (k + 1) ≡ 5 * k + 5 = omega arith in
+    rw (left, place, next, ← drop-drop 5 (5 * k) bytes, e)
 
 -- a request in range is the one that its bytes hold
 decoded : (kind : Kind) (r : Request) (rest : List ℕ) → RequestInRange kind r → request_in (request_bytes r ++ rest) ≡ r

@@ -1,4 +1,3 @@
-pub mod Answer
 pub mod Decoded
 pub mod Schedule
 pub mod Threads

@@ -13,7 +13,7 @@ ghost use Rattle.loader.specs.Load.{request_in, slots_in, loaded_as};
 
 use bench_file::Head;
 use machine::{Method, Node, NodeId, Thread};
-use object::{Kind, Request};
+use object::Request;
 use refusal::Refusal;
 use state::{Counts, Slot, State};
 
@@ -71,14 +71,7 @@ fn no_request() -> Slot
 fn fresh_threads(counts: [u8; 16]) -> [Thread; 16]
     ensures { result ≡ fresh_threads 0 counts }
 {
-    let mut threads = [fresh_thread(0, 0); 16];
-    let mut i = 0u8;
-    while i < 16 {
-        let place = i as usize;
-        threads[place] = fresh_thread(i, counts[place]);
-        i += 1;
-    }
-    threads
+    std::array::from_fn(|i| fresh_thread(i as u8, counts[i]))
 }
 
 // Tail at the start.
@@ -92,32 +85,21 @@ fn fresh_tail(method: Method) -> NodeId
 }
 
 // The fresh machine of a head, counts and requests.
-fn fresh(
-    method: Method,
-    kind: Kind,
-    n: u8,
-    h: u8,
-    capacity: u8,
-    counts: [u8; 16],
-    requests: [Slot; machine::CALLS],
-) -> State
-    ensures { result ≡ fresh_state_by method kind n h capacity counts requests }
+fn fresh(head: Head, counts: [u8; 16], requests: [Slot; machine::CALLS]) -> State
+    ensures { result ≡ fresh_state_by head.method head.object head.n head.h head.capacity counts requests }
 {
-    let threads = fresh_threads(counts);
-    let object = object::fresh();
-    let tail = fresh_tail(method);
     State {
-        method,
-        n,
-        h,
-        kind,
-        capacity,
-        tail,
-        threads,
+        method: head.method,
+        n: head.n,
+        h: head.h,
+        kind: head.object,
+        capacity: head.capacity,
+        tail: fresh_tail(head.method),
+        threads: fresh_threads(counts),
         nodes: [fresh_node(); machine::NODES],
         requests,
         copies: [0; machine::LOCATIONS],
-        object,
+        object: object::fresh(),
         counts: Counts {
             records: 0,
             turns: 0,
@@ -128,41 +110,24 @@ fn fresh(
     }
 }
 
-// The number of four bytes, the lowest first.
-fn value_of(a: u8, b: u8, c: u8, d: u8) -> u32
-    ensures { result ≡ a + 256 * (b + 256 * (c + 256 * d)) }
+// The request that the bytes begin with.
+fn request_in(bytes: &[u8]) -> Request
+    requires { 5 ≤ length bytes.now }
+    ensures { result ≡ request_in bytes.now }
 {
-    (a as u32) + 256 * (b as u32) + 65536 * (c as u32) + 16777216 * (d as u32)
+    let value = u32::from_le_bytes([bytes[1], bytes[2], bytes[3], bytes[4]]);
+    object::request_of(bytes[0], value)
 }
 
-// The request of the five bytes at a place.
-fn request_at(file: &[u8], at: usize) -> Request
-    requires { at + 5 ≤ length file.now }
-    ensures { result ≡ request_in (drop at file.now) }
+// Lays so many requests from place `first` on, as the bytes have them.
+fn lay(requests: &mut [Slot; machine::CALLS], first: usize, bytes: &[u8], count: usize)
+    requires { (first + count ≤ most_calls) × (5 * count ≤ length bytes.now) }
+    ensures { requests.new ≡ sets requests.old first (slots_in count bytes.now) }
 {
-    let value = value_of(file[at + 1], file[at + 2], file[at + 3], file[at + 4]);
-    object::request_of(file[at], value)
-}
-
-// The requests with `count` more, read from byte `at` of the file on and stored from place `first` on.
-fn laid(
-    requests: [Slot; machine::CALLS],
-    first: usize,
-    file: &[u8],
-    at: usize,
-    count: usize,
-) -> [Slot; machine::CALLS]
-    requires { (first + count ≤ most_calls) × (at + 5 * count ≤ length file.now) }
-    ensures { result ≡ sets requests first (slots_in count (drop at file.now)) }
-{
-    let mut rows = requests;
-    let mut k = 0usize;
-    while k < count {
-        let request = request_at(file, at + 5 * k);
-        rows[first + k] = Slot { request };
-        k += 1;
+    for k in 0..count {
+        let request = request_in(&bytes[5 * k..]);
+        requests[first + k] = Slot { request };
     }
-    rows
 }
 
 // The fresh machine of an accepted file.
@@ -170,30 +135,16 @@ fn machine_of(file: &[u8], head: Head) -> State
     requires { (f : Fields) × (judge_of file.now ≡ accepted f) × (f.head ≡ head) }
     ensures { (f : Fields) → judge_of file.now ≡ accepted f → result ≡ start_by head.method f }
 {
-    let method = head.method;
-    let kind = head.object;
     let mut counts = [0; 16];
     let mut requests = [no_request(); machine::CALLS];
     let mut at = bench_file::head_bytes(head.version);
-    let mut i = 0u8;
-    while i < head.n {
-        let place = i as usize;
+    for i in 0..head.n as usize {
         let count = file[at];
-        counts[place] = count;
-        let more = laid(requests, 16 * place, file, at + 1, count as usize);
-        requests = more;
-        at += 1 + 5 * (count as usize);
-        i += 1;
+        counts[i] = count;
+        lay(&mut requests, 16 * i, &file[at + 1..], count as usize);
+        at += 1 + 5 * count as usize;
     }
-    fresh(
-        method,
-        kind,
-        head.n,
-        head.h,
-        head.capacity,
-        counts,
-        requests,
-    )
+    fresh(head, counts, requests)
 }
 
 // Judges any bytes as a bench file, and makes the fresh machine of the file.
