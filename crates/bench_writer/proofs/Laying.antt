@@ -5,9 +5,12 @@ use mathlib.Core.Path.{◌≡◌, refl, sym, ap, ◌∙◌}
 use mathlib.Core.List.{List, [], ◌∷◌, ◌++◌}
 use lib.ListN.{length, get_or, take, drop, length-append, length-drop, drop_of_length-le}
 use lib.Seq.{length-take-le, drop-drop}
-use Rattle.bench_writer.specs.Writer.{pasted, Given, total, interleaved, raw_bytes}
+use Rattle.object.proofs.Inverse.{kind_of_number}
+use Rattle.bench_writer.specs.Writer.{pasted, Given, head_given, total, interleaved, raw_bytes}
 use Rattle.object.specs.Each.{sum_of}
 use Rattle.bench_file.specs.Layout.{head_length}
+use Rattle.bench_file.specs.Bytes.{head_from, head_bytes}
+use Rattle.bench_file.proofs.Methods.{method_of_number}
 use Rattle.bench_file.proofs.Each.{low_length}
 use Rattle.bench_file.proofs.Size.{head_length_lem}
 use Rattle.bench_file.proofs.Reading.{cons_at}
@@ -82,6 +85,10 @@ module _ (counts requests : List ℕ) where
     ends {buffer} {next} {from} {i} l h =
         let e : rest_part i from ≡ [] = rw drop_of_length-le in
         (omega (arith, l.ahead, ap length e), sym (pasted_nothing buffer next) ∙ rw e at l.left)
+
+-- the head that the numbers stand for has their bytes
+pub head_from_given : (g : Given) → g.object ≤ 2 → g.method ≤ 1 → head_bytes (head_given g) ≡ head_from g.version g.object g.n g.h g.capacity g.method
+head_from_given g object method = rw (kind_of_number g.object object, method_of_number g.method method)
 
 pub raw_length : (g : Given) → length (raw_bytes g) ≡ head_length g.version + 2 + length (interleaved g.counts g.requests) + length g.schedule
 unfolding raw_bytes

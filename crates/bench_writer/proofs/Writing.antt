@@ -18,7 +18,7 @@ use Rattle.bench_file.specs.Layout.{Fields, Judgement, accepted, refused_by, jud
 use Rattle.object.specs.Each.{Each, sum_of}
 use Rattle.bench_file.specs.Bytes.{request_bytes, each_bytes, row_bytes, bytes_of, Byte, RequestInRange, RowInRange, CapacityInRange, InRange}
 use Rattle.bench_writer.specs.Buffer.{Fills}
-use Rattle.bench_writer.specs.Writer.{Writing, Given, total, dealt, interleaved, raw_bytes, most_method, number_rules, count_rules, size_rules, entry_rules, requests_reader, given_reader, given_of, written_as, write_of, WritesAs}
+use Rattle.bench_writer.specs.Writer.{Writing, Given, head_given, total, dealt, interleaved, raw_bytes, most_method, number_rules, count_rules, size_rules, entry_rules, requests_reader, given_reader, given_of, written_as, write_of, WritesAs}
 use Rattle.bench_writer.specs.declared.Written.{Written}
 use Rattle.object.proofs.Each.{each_take, each_drop, each_map, every_each}
 use Rattle.object.proofs.Within.{within_range}
@@ -67,7 +67,7 @@ all_read bs l left e h =
 -- the fields that the writer takes, from the requests that it read
 abbrev taken_fields : Given → List Request → Fields
 taken_fields g requests = record {
-  head = record { version = g.version; object = kind_of g.object; n = g.n; h = g.h; capacity = g.capacity; method = method_of g.method };
+  head = head_given g;
   rows = dealt g.counts requests;
   schedule = g.schedule;
 }
@@ -150,6 +150,8 @@ total_bound (count ∷ counts) p = omega (arith, p.0, total_bound counts p.1)
 -- what the code needs of fields that the writer was given and takes
 pub record Takes (g : Given) (f : Fields) : Type 0 where
   pub fields : given_of g ≡ accepted f
+  pub object : g.object ≤ 2
+  pub method : g.method ≤ 1
   pub threads : length g.counts ≤ 16
   pub few : total g.counts ≤ 256
   pub asked : length g.requests ≡ 5 * total g.counts
@@ -162,6 +164,8 @@ takes g f rest p e =
     let t = taken g f p (rw e) in
     record {
       fields = rw e;
+      object = t.object;
+      method = method_known g.version g.method t.method;
       threads = omega (arith, t.threads, t.n);
       few = omega (arith, total_bound g.counts t.counts, t.threads, t.n);
       asked = ap length t.whole ∙ each_bytes_length request_bytes 5 request_length t.requests ∙ ap (λ (k : ℕ). 5 * k) t.number;
@@ -213,7 +217,7 @@ written_accepted g room p h =
     (f, e, rw b (reads_back f (given_in_range g f p e)))
 
 -- the whole promise, from what is written and the buffer after it
-pub writes : (g : Given) (answer : Written) (before after : List ℕ) {w : Writing} → Each Byte g.requests → write_of g (length before) ≡ w
+pub writes : (g : Given) (answer : Written) (before after : List ℕ) {w : Writing} → (answer.refusal ≡ 0 → Each Byte g.requests) → write_of g (length before) ≡ w
     → answer.refusal ≡ w.refusal → answer.length ≡ length w.bytes → after ≡ w.bytes ++ drop (length w.bytes) before
     → WritesAs g answer before after
 writes g answer before after p e refusal count buffer =
@@ -223,7 +227,7 @@ writes g answer before after p e refusal count buffer =
       count = whole.count;
       buffer = whole.buffer;
       meant = λ z.
-          let (f, given, judged) = written_accepted g (length before) p (sym whole.refusal ∙ z) in
+          let (f, given, judged) = written_accepted g (length before) (p z) (sym whole.refusal ∙ z) in
           (f, given, rw (filled whole) judged);
       unchanged = λ bytes f bs a given room.
           let back = filled_as whole (rw given (written_back bytes f (length before) bs a room)) in

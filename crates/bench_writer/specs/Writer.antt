@@ -3,10 +3,12 @@ use Rattle.std.specs.Prelude.{ℕ, ◌+◌, ◌*◌, ◌≤◌, ◌≡◌, Bool,
 use Rattle.object.specs.declared.Kind.{Kind}
 use Rattle.object.specs.declared.Request.{Request}
 use Rattle.object.specs.Paper.{within, kind_number, kind_of, least_capacity, most_capacity}
+use Rattle.bench_writer.specs.declared.Given as code
 use Rattle.bench_writer.specs.declared.Written.{Written}
 use Rattle.object.specs.Each.{Each, every, sum_of}
 use Rattle.bench_file.specs.Reading.{Reader, ◌>>=◌, ◌>>◌, done, rules, several}
 use Rattle.machine.specs.Methods.{method_number, method_of}
+use Rattle.bench_file.specs.declared.Head.{Head}
 use Rattle.bench_file.specs.Layout.{Fields, version_known, Judgement, accepted, refused_by, judged, judge_of, request_reader}
 use Rattle.bench_file.specs.Bytes.{low_first, request_bytes, each_bytes, head_from, bytes_of, Byte}
 
@@ -34,6 +36,15 @@ given_by version object n h capacity method counts requests schedule = record {
   requests = requests;
   schedule = schedule;
 }
+
+-- the code's fields, each slice by its bytes
+abbrev pub as_given : code.Given → Given
+as_given given =
+    given_by given.version given.object given.n given.h given.capacity given.method given.counts.now given.requests.now given.schedule.now
+
+-- the head that the numbers stand for
+abbrev pub head_given : Given → Head
+head_given g = record { version = g.version; object = kind_of g.object; n = g.n; h = g.h; capacity = g.capacity; method = method_of g.method }
 
 -- how many requests the counts ask for
 abbrev pub total : List ℕ → ℕ
@@ -99,7 +110,7 @@ given_reader g = do
   requests ← requests_reader (kind_of g.object) (total g.counts) g.requests
   rules (entry_rules g.n g.schedule)
   done (record {
-    head = record { version = g.version; object = kind_of g.object; n = g.n; h = g.h; capacity = g.capacity; method = method_of g.method };
+    head = head_given g;
     rows = dealt g.counts requests;
     schedule = g.schedule;
   })

@@ -2,16 +2,32 @@
 #![tactic(auto)]
 
 ghost use Rattle.std.specs.Prelude.{◌≡◌, ℕ, ◌+◌, ◌*◌, ◌≤◌, List, ◌∷◌, length, drop};
+ghost use Rattle.object.specs.Each.{Each};
 ghost use Rattle.bench_file.specs.Layout.{head_length};
-ghost use Rattle.bench_file.specs.Bytes.{low_first, head_from};
+ghost use Rattle.bench_file.specs.Bytes.{low_first, head_bytes, Byte};
 ghost use Rattle.bench_file.specs.Reading.{rules};
 ghost use Rattle.bench_file.specs.Cursor.{number_read, forgotten, numbered};
 ghost use Rattle.bench_writer.specs.Buffer.{Fills};
 ghost use Rattle.bench_writer.specs.Convert.{head_converted, Converts};
-ghost use Rattle.bench_writer.specs.Writer.{pasted, total, most_method, number_rules, count_rules, requests_reader, entry_rules, interleaved, raw_bytes, given_by, given_reader, WritesAs};
+ghost use Rattle.bench_writer.specs.Writer.{pasted, total, most_method, number_rules, count_rules, requests_reader, entry_rules, interleaved, raw_bytes, as_given, head_given, given_reader, WritesAs};
 
 use bench_file::{Head, Judged, Reached};
 use object::Kind;
+
+// What the writer is given: the file's numbers, a count of requests for each thread, the requests of all threads in the file's five-byte form, and the schedule.
+// The numbers are those of the C interface: a caller may give any, and those that no file has are refused.
+#[derive(Clone, Copy)]
+pub struct Given<'a> {
+    pub version: u16,
+    pub object: u8,
+    pub n: u8,
+    pub h: u8,
+    pub capacity: u8,
+    pub method: u8,
+    pub counts: &'a [u8],
+    pub requests: &'a [u8],
+    pub schedule: &'a [u8],
+}
 
 // The refusal, 0 for none, and how many bytes were written.
 #[derive(Clone, Copy)]
@@ -28,31 +44,6 @@ fn most_method(version: u16) -> u8
         return 0;
     }
     1
-}
-
-// Version, object, n, h, capacity and method: 0, or the refusal.
-fn judge_numbers(version: u16, object: u8, n: u8, h: u8, capacity: u8, method: u8) -> u8
-    ensures { (bytes : List ℕ) → number_read bytes 0 result ≡ rules (number_rules version object n h capacity method) bytes }
-{
-    if !bench_file::version_known(version) {
-        return 3;
-    }
-    if !object::between(0, object, 2) {
-        return 4;
-    }
-    if !object::between(1, n, 16) {
-        return 5;
-    }
-    if !object::between(1, h, 255) {
-        return 6;
-    }
-    if !object::capacity_allowed(object::kind_of(object), capacity) {
-        return 7;
-    }
-    if most_method(version) < method {
-        return 15;
-    }
-    0
 }
 
 // The sum of a row of at most 16 counts.
@@ -89,7 +80,8 @@ fn judge_counts(n: u8, counts: &[u8]) -> u8
 // The row of requests, for so many requests: 0, or the refusal.
 fn judge_requests(object: Kind, count: usize, requests: &[u8]) -> u8
     requires { count ≤ 16 * 255 }
-    ensures { numbered result ≡ forgotten (requests_reader object count requests.now requests.now) }
+    ensures numbers { numbered result ≡ forgotten (requests_reader object count requests.now requests.now) }
+    ensures bytes { Each Byte requests.now }
 {
     if requests.len() < 5 * count {
         return 1;
@@ -116,34 +108,78 @@ fn judge_entries(n: u8, schedule: &[u8]) -> u8
     11
 }
 
-// All rules but the last, 13, in their order: 0, or the refusal.
-fn judge_given(
-    version: u16,
-    object: u8,
-    n: u8,
-    h: u8,
-    capacity: u8,
-    method: u8,
-    counts: &[u8],
-    requests: &[u8],
-    schedule: &[u8],
-) -> u8
-    ensures { numbered result ≡ forgotten (given_reader (given_by version object n h capacity method counts.now requests.now schedule.now) requests.now) }
-{
-    let numbers = judge_numbers(version, object, n, h, capacity, method);
-    if numbers != 0 {
-        return numbers;
+impl Given<'_> {
+    // Version, object, n, h, capacity and method: 0, or the refusal.
+    fn judge_numbers(self) -> u8
+        ensures { let g = as_given self.entry in (bytes : List ℕ) → number_read bytes 0 result ≡ rules (number_rules g.version g.object g.n g.h g.capacity g.method) bytes }
+    {
+        if !bench_file::version_known(self.version) {
+            return 3;
+        }
+        if !object::between(0, self.object, 2) {
+            return 4;
+        }
+        if !object::between(1, self.n, 16) {
+            return 5;
+        }
+        if !object::between(1, self.h, 255) {
+            return 6;
+        }
+        if !object::capacity_allowed(object::kind_of(self.object), self.capacity) {
+            return 7;
+        }
+        if most_method(self.version) < self.method {
+            return 15;
+        }
+        0
     }
-    let row = judge_counts(n, counts);
-    if row != 0 {
-        return row;
+
+    // All rules but the last, 13, in their order: 0, or the refusal.
+    fn judge(self) -> u8
+        ensures numbers { let g = as_given self.entry in numbered result ≡ forgotten (given_reader g g.requests) }
+        ensures bytes { result ≡ 0 → Each Byte self.entry.requests.now }
+    {
+        let numbers = self.judge_numbers();
+        if numbers != 0 {
+            return numbers;
+        }
+        let row = judge_counts(self.n, self.counts);
+        if row != 0 {
+            return row;
+        }
+        let count = total_of(self.counts);
+        let asked = judge_requests(object::kind_of(self.object), count, self.requests);
+        if asked != 0 {
+            return asked;
+        }
+        judge_entries(self.n, self.schedule)
     }
-    let count = total_of(counts);
-    let asked = judge_requests(object::kind_of(object), count, requests);
-    if asked != 0 {
-        return asked;
+
+    // The head of the file, from numbers that were judged.
+    fn head(self) -> Head
+        ensures { result ≡ head_given (as_given self.entry) }
+    {
+        Head {
+            version: self.version,
+            object: object::kind_of(self.object),
+            n: self.n,
+            h: self.h,
+            capacity: self.capacity,
+            method: machine::method_of(self.method),
+        }
     }
-    judge_entries(n, schedule)
+
+    // How long the file is.
+    fn length(self) -> usize
+        requires { let g = as_given self in length g.counts + length g.requests + length g.schedule ≤ 40000 }
+        ensures { let g = as_given self.entry in result ≡ head_length g.version + length g.counts + length g.requests + 2 + length g.schedule }
+    {
+        bench_file::head_bytes(self.version)
+            + self.counts.len()
+            + self.requests.len()
+            + 2
+            + self.schedule.len()
+    }
 }
 
 // Lays bytes into a buffer from a place on.
@@ -155,18 +191,32 @@ fn put(out: &mut [u8], at: usize, src: &[u8])
 }
 
 // All bytes before the rows; the method's from version 2 on.
-fn put_head(out: &mut [u8], version: u16, object: u8, n: u8, h: u8, capacity: u8, method: u8)
-    requires { head_length version ≤ length out.old }
-    ensures { out.new ≡ pasted out.old 0 (head_from version object n h capacity method) }
+fn put_head(out: &mut [u8], head: Head)
+    requires { head_length head.version ≤ length out.old }
+    ensures { out.new ≡ pasted out.old 0 (head_bytes head) }
 {
-    let low = (version % 256) as u8;
-    let high = (version / 256 % 256) as u8;
+    let kind = head.object;
+    let object = object::kind_number(kind);
+    let by = head.method;
+    let method = machine::method_number(by);
+    let low = (head.version % 256) as u8;
+    let high = (head.version / 256 % 256) as u8;
     put(
         out,
         0,
-        &[0x43, 0x43, 0x53, low, high, object, n, h, capacity],
+        &[
+            0x43,
+            0x43,
+            0x53,
+            low,
+            high,
+            object,
+            head.n,
+            head.h,
+            head.capacity,
+        ],
     );
-    if version == 1 {
+    if head.version == 1 {
         return;
     }
     put(out, 9, &[method]);
@@ -214,62 +264,33 @@ fn put_rows(out: &mut [u8], at: usize, counts: &[u8], requests: &[u8]) -> usize
 }
 
 // The whole file, from the buffer's first byte on.
-fn put_file(
-    out: &mut [u8],
-    version: u16,
-    object: u8,
-    n: u8,
-    h: u8,
-    capacity: u8,
-    method: u8,
-    counts: &[u8],
-    requests: &[u8],
-    schedule: &[u8],
-)
-    requires { (5 * total counts.now ≤ length requests.now) × (length (raw_bytes (given_by version object n h capacity method counts.now requests.now schedule.now)) ≤ length out.old) }
-    ensures { out.new ≡ pasted out.old 0 (raw_bytes (given_by version object n h capacity method counts.now requests.now schedule.now)) }
+fn put_file(out: &mut [u8], given: Given)
+    requires { let g = as_given given in (g.object ≤ 2) × (g.method ≤ 1) × (5 * total g.counts ≤ length g.requests) × (length (raw_bytes g) ≤ length out.old) }
+    ensures { out.new ≡ pasted out.old 0 (raw_bytes (as_given given.entry)) }
 {
-    put_head(out, version, object, n, h, capacity, method);
-    let next = put_rows(out, bench_file::head_bytes(version), counts, requests);
-    put_length(out, next, schedule.len());
-    put(out, next + 2, schedule);
+    put_head(out, given.head());
+    let at = bench_file::head_bytes(given.version);
+    let next = put_rows(out, at, given.counts, given.requests);
+    put_length(out, next, given.schedule.len());
+    put(out, next + 2, given.schedule);
 }
 
 // Writes the bench file of given fields into a lent buffer, or refuses and leaves the buffer as it was.
-pub fn write(
-    version: u16,
-    object: u8,
-    n: u8,
-    h: u8,
-    capacity: u8,
-    method: u8,
-    counts: &[u8],
-    requests: &[u8],
-    schedule: &[u8],
-    out: &mut [u8],
-) -> Written
-    ensures { WritesAs (given_by version object n h capacity method counts.now requests.now schedule.now) result out.old out.new }
+pub fn write(given: Given, out: &mut [u8]) -> Written
+    ensures { WritesAs (as_given given.entry) result out.old out.new }
 {
-    let refusal = judge_given(
-        version, object, n, h, capacity, method, counts, requests, schedule,
-    );
+    let refusal = given.judge();
     if refusal != 0 {
         return Written { refusal, length: 0 };
     }
-    let length = bench_file::head_bytes(version)
-        + counts.len()
-        + requests.len()
-        + 2
-        + schedule.len();
+    let length = given.length();
     if out.len() < length {
         return Written {
             refusal: 13,
             length: 0,
         };
     }
-    put_file(
-        out, version, object, n, h, capacity, method, counts, requests, schedule,
-    );
+    put_file(out, given);
     Written { refusal: 0, length }
 }
 
@@ -278,7 +299,6 @@ fn convert_head(file: &[u8], head: Head, wanted: u16, out: &mut [u8]) -> Written
     requires { head_length head.version ≤ length file.now }
     ensures { Fills (head_converted wanted (length out.old) head (drop (head_length head.version) file.now)) result out.old out.new }
 {
-    let object = head.object;
     let method = head.method;
     let by = machine::method_number(method);
     if most_method(wanted) < by {
@@ -296,8 +316,13 @@ fn convert_head(file: &[u8], head: Head, wanted: u16, out: &mut [u8]) -> Written
             length: 0,
         };
     }
-    let kind = object::kind_number(object);
-    put_head(out, wanted, kind, head.n, head.h, head.capacity, by);
+    put_head(
+        out,
+        Head {
+            version: wanted,
+            ..head
+        },
+    );
     put(out, at, &file[from..]);
     Written {
         refusal: 0,

@@ -10,6 +10,7 @@ ghost use Rattle.page.specs.Promise.{Prints};
 ghost use Rattle.ccs.specs.Numbers.{judged_numbers, JudgedIn, answer_in, written_in, ConvertsAlike, printed_in};
 
 use bench_file::Judged;
+use bench_writer::Given;
 
 // A judgement's number, 0 for an accepted file.
 fn judged_refusal(judged: Judged) -> u8
@@ -100,9 +101,18 @@ pub extern "C" fn ccs_write(
 ) -> u8
     ensures { WritesAs (given_by version object n h capacity method counts.now requests.now schedule.now) (written_in result length.new) out.old out.new }
 {
-    let written = bench_writer::write(
-        version, object, n, h, capacity, method, counts, requests, schedule, out,
-    );
+    let given = Given {
+        version,
+        object,
+        n,
+        h,
+        capacity,
+        method,
+        counts,
+        requests,
+        schedule,
+    };
+    let written = bench_writer::write(given, out);
     *length = written.length;
     written.refusal
 }

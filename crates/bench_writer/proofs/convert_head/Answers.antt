@@ -5,7 +5,7 @@ use lib.Seq.{take_all}
 use Rattle.machine.specs.Methods.{method_number}
 use Rattle.bench_file.specs.Layout.{head_length}
 use Rattle.bench_file.specs.Bytes.{head_bytes, head_in}
-use Rattle.bench_writer.specs.Writer.{pasted, most_method}
+use Rattle.bench_writer.specs.Writer.{most_method}
 use Rattle.bench_writer.proofs.Converting.{head_long, laid_length, head_short, head_whole}
 use Rattle.bench_writer.proofs.Filling.{fills}
 use Rattle.bench_writer.proofs.Pasted.{pasted_behind}
@@ -28,8 +28,7 @@ returns c =
     omega (arith, c.head_bytes-at.ensures, c.head_bytes-from.ensures, length-drop (head_length a.head.version) a.file.now) in
     let part : take (length a.file.now - c.head_bytes-from.result) (drop c.head_bytes-from.result a.file.now) ≡ rest =
     rw (← c.head_bytes-from.ensures) (take_all (length a.file.now - c.head_bytes-from.result) (drop c.head_bytes-from.result a.file.now) (rw length-drop (omega arith))) in
-    let put_head : c.put_head.new.out ≡ pasted a.out.now 0 head = rw (← c.kind_number-kind.ensures, ← c.method_number-by.ensures) c.put_head.ensures in
     let long : c.head_bytes-at.result ≡ length head = c.head_bytes-at.ensures ∙ sym (head_long (head_in a.wanted a.head)) in
     fills (head_whole a.wanted (length a.out.now) a.head rest allowed (omega (arith, size))) refl
     (size ∙ sym (laid_length a.wanted (length a.out.now) a.head rest))
-    (pasted_behind a.out.now head rest c.head_bytes-at.result put_head long (rw part at c.put.ensures) ∙ rw zero-add)
+    (pasted_behind a.out.now head rest c.head_bytes-at.result c.put_head.ensures long (rw part at c.put.ensures) ∙ rw zero-add)

@@ -10,25 +10,25 @@ use Rattle.bench_writer.specs.Writer.{requests_reader}
 use Rattle.bench_writer.proofs.Forgotten.{forgotten_tallied}
 use Rattle.bench_writer.proofs.judge_requests.Goals as goal
 
-pub returns-then-requests-count : goal.returns-then-requests-count
+pub returns-then-requests-count-clause-numbers : goal.returns-then-requests-count-clause-numbers
 unfolding requests_reader
-returns-then-requests-count c = simp (lt-leb _ _ c.if-requests-count.true)
+returns-then-requests-count-clause-numbers c = simp (lt-leb _ _ c.if-requests-count.true)
 
-pub returns-then-count-requests : goal.returns-then-count-requests
+pub returns-then-count-requests-clause-numbers : goal.returns-then-count-requests-clause-numbers
 unfolding requests_reader
-returns-then-count-requests c =
+returns-then-count-requests-clause-numbers c =
     simp (le-leb _ _ c.if-requests-count.false, lt-leb _ _ c.if-count-requests.true)
 
-pub returns-in-At : goal.returns-in-At
+pub returns-in-At-clause-numbers : goal.returns-in-At-clause-numbers
 unfolding requests_reader
-returns-in-At c =
+returns-in-At-clause-numbers c =
     let a = c.args in
     simp (le-leb _ _ c.if-requests-count.false, le-leb _ _ c.if-count-requests.false)
     (ap forgotten c.in-At.ensures.result_value ∙ forgotten_tallied (sum_of single) (several a.count (request_reader a.object) a.requests.now))
 
-pub returns-in-Refused : goal.returns-in-Refused
+pub returns-in-Refused-clause-numbers : goal.returns-in-Refused-clause-numbers
 unfolding requests_reader
-returns-in-Refused c =
+returns-in-Refused-clause-numbers c =
     let a = c.args in
     let e = c.in-Refused.ensures.result_value in
     simp (le-leb _ _ c.if-requests-count.false, le-leb _ _ c.if-count-requests.false, ne_eqb _ _ (tallied_numbered (sum_of single) (several_numbered (request_numbered a.object) a.count) a.requests.now (sym e)))
