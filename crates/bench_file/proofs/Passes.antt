@@ -8,6 +8,9 @@ use mathlib.Core.List.{List, [], ◌∷◌}
 use lib.ListN.{length, drop}
 use Rattle.object.specs.Each.{sum_of}
 use Rattle.bench_file.specs.Reading.{Outcome, refused, read, Reader, after, several}
+use Rattle.std.specs.Prelude.{Result, Ok, Err}
+use Rattle.refusal.specs.declared.Refusal.{Refusal}
+use Rattle.refusal.specs.Numbers.{number}
 use Rattle.bench_file.specs.declared.Reached.{Reached}
 use Rattle.bench_file.specs.Cursor.{reached, Ahead, tallied, single}
 
@@ -65,9 +68,9 @@ module _ {A : Type 0} (reader : Reader A) (tally : A → ℕ) where
     left_none i sum next h = let k : count - i ≡ 0 = omega arith in rw (k, add-zero)
 
 -- a place further on is ahead of an earlier one too
-pub ahead_from : (s : List ℕ) (at from : ℕ) (r : Reached) → at ≤ from → Ahead s from r → Ahead s at r
-ahead_from s at from (Reached.At next count) h a = omega (arith, a)
-ahead_from s at from (Reached.Refused refusal) h a = tt
+pub ahead_from : (s : List ℕ) (at from : ℕ) (r : Result Reached Refusal) → at ≤ from → Ahead s from r → Ahead s at r
+ahead_from s at from (Ok place) h a = omega (arith, a)
+ahead_from s at from (Err refusal) h a = tt
 
 -- what such a loop keeps: i of `count` were read from `at` on, `done` tallied, and `next` is the place behind them
 module _ {A : Type 0} (reader : Reader A) (tally : A → ℕ) (s : List ℕ) (at count : ℕ) where
@@ -79,14 +82,14 @@ module _ {A : Type 0} (reader : Reader A) (tally : A → ℕ) (s : List ℕ) (at
   pub begins : at ≤ length s → Passing at 0 0
   begins h = record { counted = omega arith; ahead = omega arith; left = left_all reader tally s count at }
 
-  module _ {next sum i : ℕ} (t : Passing next sum i) {r : Reached} (e : reached s r ≡ tallied tally (reader (drop next s))) where
-    pub passes : {mid x : ℕ} → i < count → Ahead s next r → r ≡ Reached.At mid x → Passing mid (sum + x) (i + 1)
-    passes {mid} {x} h a z =
-        let b : Ahead s next (Reached.At mid x) = rw z at a in
-        record { counted = omega arith; ahead = omega (arith, t.ahead); left = t.left ∙ left_more reader tally s count i sum next x mid h (sym e ∙ rw z) }
+  module _ {next sum i : ℕ} (t : Passing next sum i) {r : Result Reached Refusal} (e : reached s r ≡ tallied tally (reader (drop next s))) where
+    pub passes : {place : Reached} → i < count → Ahead s next r → r ≡ Ok place → Passing place.next (sum + place.count) (i + 1)
+    passes {place} h a z =
+        let b : Ahead s next (Ok place) = rw z at a in
+        record { counted = omega arith; ahead = omega (arith, t.ahead); left = t.left ∙ left_more reader tally s count i sum next place.count place.next h (sym e ∙ rw z) }
 
-    pub refuses : {refusal : ℕ} → i < count → r ≡ Reached.Refused refusal → refused refusal ≡ tallied (sum_of tally) (several count reader (drop at s))
-    refuses {refusal} h z = sym (t.left ∙ left_refused reader tally s count i sum next refusal h (sym e ∙ rw z))
+    pub refuses : {refusal : Refusal} → i < count → r ≡ Err refusal → refused (number refusal) ≡ tallied (sum_of tally) (several count reader (drop at s))
+    refuses {refusal} h z = sym (t.left ∙ left_refused reader tally s count i sum next (number refusal) h (sym e ∙ rw z))
 
   pub ends : {next sum i : ℕ} → Passing next sum i → count ≤ i → read sum (drop next s) ≡ tallied (sum_of tally) (several count reader (drop at s))
   ends {next} {sum} {i} t h = sym (t.left ∙ left_none reader tally s count i sum next h)

@@ -12,9 +12,7 @@ use lib.Seq.{take-nil, drop-cons, drop-drop}
 use lib.Dec.{eqb}
 use borrow.Author.Tests.{eq-eqb, ne_eqb}
 use Rattle.bench_file.specs.Layout.{is_mark}
-use Rattle.bench_file.specs.Cursor.{number_read, byte_read, reached}
-use Rattle.bench_file.specs.declared.Reached.{Reached}
-use Rattle.bench_file.specs.declared.ByteRead.{ByteRead}
+use Rattle.bench_file.specs.Cursor.{number_read}
 use Rattle.bench_file.specs.Reading.{Outcome, refused, read, Reader, after, rule, field, little_endian, byte, ruled_byte}
 
 -- what follows a value that was read, and a refusal
@@ -116,11 +114,3 @@ went_on s next e z = sym e ∙ rw z
 
 pub stopped : (s : List ℕ) (next : ℕ) {refusal : ℕ} {o : Outcome Unit} → number_read s next refusal ≡ o → (refusal ≡ 0 → ⊥) → o ≡ refused refusal
 stopped s next e z = sym e ∙ rw (ne_eqb _ _ z)
-
--- what a byte that was read, or refused, says of the outcome that it stands for
-pub byte_was : (s : List ℕ) (at : ℕ) {r x : ByteRead} {o : Outcome ℕ} → byte_read s at r ≡ o → r ≡ x → o ≡ byte_read s at x
-byte_was s at e t = sym e ∙ rw t
-
--- the same of a place that was reached
-pub reached_was : (s : List ℕ) {r x : Reached} {o : Outcome ℕ} → reached s r ≡ o → r ≡ x → o ≡ reached s x
-reached_was s e t = sym e ∙ rw t

@@ -1,11 +1,9 @@
 -- What the code's answers mean as outcomes of a reader: a place in the file stands for the bytes from there on.
-use Rattle.std.specs.Prelude.{ℕ, ◌+◌, ◌≤◌, cond, List, [], ◌∷◌, length, drop, eqb}
+use Rattle.std.specs.Prelude.{ℕ, ◌+◌, ◌≤◌, cond, List, [], ◌∷◌, length, drop, eqb, Result, Ok, Err}
+use Rattle.refusal.specs.declared.Refusal.{Refusal}
+use Rattle.refusal.specs.Numbers.{number}
 use Rattle.bench_file.specs.declared.Head.{Head}
 use Rattle.machine.specs.declared.Method.{Method}
-use Rattle.bench_file.specs.declared.StartRead.{StartRead}
-use Rattle.bench_file.specs.declared.MethodRead.{MethodRead}
-use Rattle.bench_file.specs.declared.ByteRead.{ByteRead}
-use Rattle.bench_file.specs.declared.HeadRead.{HeadRead}
 use Rattle.bench_file.specs.declared.Reached.{Reached}
 use Rattle.bench_file.specs.declared.Judged.{Judged}
 use Rattle.bench_file.specs.Layout.{head_length, schedule_reader}
@@ -25,44 +23,44 @@ abbrev pub numbered : ℕ → Outcome Unit
 numbered refusal = cond (eqb refusal 0) (read tt []) (refused refusal)
 
 -- a byte at a place, or its refusal
-abbrev pub byte_read : List ℕ → ℕ → ByteRead → Outcome ℕ
-byte_read bytes at (ByteRead.Byte b) = read b (drop (at + 1) bytes)
-byte_read bytes at (ByteRead.Refused refusal) = refused refusal
+abbrev pub byte_read : List ℕ → ℕ → Result ℕ Refusal → Outcome ℕ
+byte_read bytes at (Ok b) = read b (drop (at + 1) bytes)
+byte_read bytes at (Err refusal) = refused (number refusal)
 
 -- the version, which ends with byte 4, or the refusal
-abbrev pub start_read : List ℕ → StartRead → Outcome ℕ
-start_read bytes (StartRead.Version version) = read version (drop 5 bytes)
-start_read bytes (StartRead.Refused refusal) = refused refusal
+abbrev pub start_read : List ℕ → Result ℕ Refusal → Outcome ℕ
+start_read bytes (Ok version) = read version (drop 5 bytes)
+start_read bytes (Err refusal) = refused (number refusal)
 
 -- the method, the last of the head, or its refusal
-abbrev pub method_read : List ℕ → ℕ → MethodRead → Outcome Method
-method_read bytes version (MethodRead.Known method) = read method (drop (head_length version) bytes)
-method_read bytes version (MethodRead.Refused refusal) = refused refusal
+abbrev pub method_read : List ℕ → ℕ → Result Method Refusal → Outcome Method
+method_read bytes version (Ok method) = read method (drop (head_length version) bytes)
+method_read bytes version (Err refusal) = refused (number refusal)
 
 -- a method that was read lies within the bytes
-abbrev pub MethodInside : List ℕ → ℕ → MethodRead → Type 0
-MethodInside bytes version (MethodRead.Known method) = head_length version ≤ length bytes
-MethodInside bytes version (MethodRead.Refused refusal) = Unit
+abbrev pub MethodInside : List ℕ → ℕ → Result Method Refusal → Type 0
+MethodInside bytes version (Ok method) = head_length version ≤ length bytes
+MethodInside bytes version (Err refusal) = Unit
 
 -- the head, or its refusal
-abbrev pub head_read : List ℕ → HeadRead → Outcome Head
-head_read bytes (HeadRead.Whole head) = read head (drop (head_length head.version) bytes)
-head_read bytes (HeadRead.Refused refusal) = refused refusal
+abbrev pub head_read : List ℕ → Result Head Refusal → Outcome Head
+head_read bytes (Ok head) = read head (drop (head_length head.version) bytes)
+head_read bytes (Err refusal) = refused (number refusal)
 
 -- a head that was read lies within the bytes
-abbrev pub HeadInside : List ℕ → HeadRead → Type 0
-HeadInside bytes (HeadRead.Whole head) = head_length head.version ≤ length bytes
-HeadInside bytes (HeadRead.Refused refusal) = Unit
+abbrev pub HeadInside : List ℕ → Result Head Refusal → Type 0
+HeadInside bytes (Ok head) = head_length head.version ≤ length bytes
+HeadInside bytes (Err refusal) = Unit
 
 -- how many requests or entries were read, and the place behind them
-abbrev pub reached : List ℕ → Reached → Outcome ℕ
-reached bytes (Reached.At next count) = read count (drop next bytes)
-reached bytes (Reached.Refused refusal) = refused refusal
+abbrev pub reached : List ℕ → Result Reached Refusal → Outcome ℕ
+reached bytes (Ok place) = read place.count (drop place.next bytes)
+reached bytes (Err refusal) = refused (number refusal)
 
 -- a place that was reached lies within the bytes, and each thing counted took a byte or more
-abbrev pub Ahead : List ℕ → ℕ → Reached → Type 0
-Ahead bytes at (Reached.At next count) = (at + count ≤ next) × (next ≤ length bytes)
-Ahead bytes at (Reached.Refused refusal) = Unit
+abbrev pub Ahead : List ℕ → ℕ → Result Reached Refusal → Type 0
+Ahead bytes at (Ok place) = (at + place.count ≤ place.next) × (place.next ≤ length bytes)
+Ahead bytes at (Err refusal) = Unit
 
 -- an outcome of which only a number is kept
 abbrev pub tallied : {A : Type 0} → (A → ℕ) → Outcome A → Outcome ℕ
@@ -74,15 +72,15 @@ abbrev pub single : {A : Type 0} → A → ℕ
 single a = 1
 
 -- the end of the bytes, or 12
-abbrev pub end_as : Head → ℕ → ℕ → List ℕ → Judged
-end_as head requests entries [] = Judged.Accepted head requests entries
-end_as head requests entries (b ∷ rest) = Judged.Refused 12
+abbrev pub end_as : Head → ℕ → ℕ → List ℕ → Result Judged ℕ
+end_as head requests entries [] = Ok (record { head = head; requests = requests; entries = entries })
+end_as head requests entries (b ∷ rest) = Err 12
 
 -- what is judged from the schedule on, and from the rows on
-abbrev pub schedule_as : Head → ℕ → Outcome ℕ → Judged
-schedule_as head requests (refused refusal) = Judged.Refused refusal
+abbrev pub schedule_as : Head → ℕ → Outcome ℕ → Result Judged ℕ
+schedule_as head requests (refused refusal) = Err refusal
 schedule_as head requests (read entries rest) = end_as head requests entries rest
 
-abbrev pub rows_as : Head → Outcome ℕ → Judged
-rows_as head (refused refusal) = Judged.Refused refusal
+abbrev pub rows_as : Head → Outcome ℕ → Result Judged ℕ
+rows_as head (refused refusal) = Err refusal
 rows_as head (read requests rest) = schedule_as head requests (tallied length (schedule_reader head.n rest))

@@ -2,6 +2,7 @@
 #![tactic(auto)]
 
 ghost use Rattle.std.specs.Prelude.{◌≡◌, ◌+◌, ◌≤◌, ◌<◌, length, take, drop, ltb};
+ghost use Rattle.refusal.specs.Numbers.{number, by_number};
 ghost use Rattle.object.specs.Each.{every, sum_of};
 ghost use Rattle.bench_file.specs.Reading.{little_endian, ranged, several};
 ghost use Rattle.bench_file.specs.Layout.{version_known, head_length, is_mark, start_reader, method_reader, limits_reader, head_reader, request_reader, row_reader, entry_reader, schedule_reader};
@@ -10,6 +11,7 @@ ghost use Rattle.bench_file.specs.Cursor.{byte_read, start_read, method_read, Me
 
 use machine::Method;
 use object::Kind;
+use refusal::Refusal;
 
 // What a bench file says before its rows of requests.
 #[derive(Clone, Copy)]
@@ -22,50 +24,19 @@ pub struct Head {
     pub method: Method,
 }
 
-// A field of one byte, or the refusal.
+// The place behind what was read, and how many requests or entries it held.
 #[derive(Clone, Copy)]
-enum ByteRead {
-    Byte(u8),
-    Refused(u8),
+pub struct Reached {
+    pub next: usize,
+    pub count: usize,
 }
 
-// Mark and version, or the refusal.
+// What an accepted file has: its head, how many requests in all, how many schedule entries.
 #[derive(Clone, Copy)]
-enum StartRead {
-    Version(u16),
-    Refused(u8),
-}
-
-// The method, or the refusal.
-#[derive(Clone, Copy)]
-enum MethodRead {
-    Known(Method),
-    Refused(u8),
-}
-
-// The head, or the refusal.
-#[derive(Clone, Copy)]
-enum HeadRead {
-    Whole(Head),
-    Refused(u8),
-}
-
-// The place behind what was read, and how many requests or entries it held; or the refusal.
-#[derive(Clone, Copy)]
-pub enum Reached {
-    At { next: usize, count: usize },
-    Refused(u8),
-}
-
-// What a bench file is judged to be: its head, how many requests in all, how many schedule entries; or the refusal.
-#[derive(Clone, Copy)]
-pub enum Judged {
-    Accepted {
-        head: Head,
-        requests: usize,
-        entries: usize,
-    },
-    Refused(u8),
+pub struct Judged {
+    pub head: Head,
+    pub requests: usize,
+    pub entries: usize,
 }
 
 // How many bytes a file's head has. The rows of requests begin behind them; from version 2 on the last is the method's.
@@ -89,17 +60,17 @@ pub fn version_known(version: u16) -> bool
 }
 
 // The field of one byte at a place: 1 where it is cut off, the given refusal where it is outside its range.
-fn byte_in(s: &[u8], at: usize, refusal: u8, least: u8, most: u8) -> ByteRead
-    ensures { byte_read s.now at result ≡ ranged refusal least most (drop at s.now) }
+fn byte_in(s: &[u8], at: usize, refusal: Refusal, least: u8, most: u8) -> Result<u8, Refusal>
+    ensures { byte_read s.now at result ≡ ranged (number refusal) least most (drop at s.now) }
 {
     if s.len() <= at {
-        return ByteRead::Refused(1);
+        return Err(Refusal::CutOff);
     }
     let b = s[at];
     if object::between(least, b, most) {
-        return ByteRead::Byte(b);
+        return Ok(b);
     }
-    ByteRead::Refused(refusal)
+    Err(refusal)
 }
 
 // A byte as a wider number.
@@ -143,123 +114,92 @@ fn is_mark(s: &[u8]) -> bool
 const MARK: usize = 3;
 
 // Mark and version.
-fn read_start(s: &[u8]) -> StartRead
+fn read_start(s: &[u8]) -> Result<u16, Refusal>
     ensures { start_read s.now result ≡ start_reader s.now }
 {
     if s.len() < MARK {
-        return StartRead::Refused(1);
+        return Err(Refusal::CutOff);
     }
     if !is_mark(s) {
-        return StartRead::Refused(2);
+        return Err(Refusal::Mark);
     }
     if s.len() < 5 {
-        return StartRead::Refused(1);
+        return Err(Refusal::CutOff);
     }
     let version = number2(s, 3) as u16;
     if version_known(version) {
-        return StartRead::Version(version);
+        return Ok(version);
     }
-    StartRead::Refused(3)
+    Err(Refusal::Version)
 }
 
 // The method, behind the capacity.
-fn read_method(s: &[u8], version: u16) -> MethodRead
+fn read_method(s: &[u8], version: u16) -> Result<Method, Refusal>
     requires { 9 ≤ length s.now }
     ensures result_value { method_read s.now version result ≡ method_reader version (drop 9 s.now) }
     ensures method_inside { MethodInside s.now version result }
 {
     if version == 1 {
-        return MethodRead::Known(Method::CcSynch);
+        return Ok(Method::CcSynch);
     }
-    match byte_in(s, 9, 15, 0, 1) {
-        ByteRead::Byte(b) => MethodRead::Known(machine::method_of(b)),
-        ByteRead::Refused(refusal) => MethodRead::Refused(refusal),
-    }
+    let b = byte_in(s, 9, Refusal::Method, 0, 1)?;
+    Ok(machine::method_of(b))
 }
 
 // From byte 6 on: n, h, the capacity and the method, behind an object byte that is in range.
-fn read_limits(s: &[u8], version: u16, object: Kind) -> HeadRead
+fn read_limits(s: &[u8], version: u16, object: Kind) -> Result<Head, Refusal>
     ensures result_value { head_read s.now result ≡ limits_reader version object (drop 6 s.now) }
     ensures head_inside { HeadInside s.now result }
 {
-    let n = match byte_in(s, 6, 5, 1, 16) {
-        ByteRead::Byte(b) => b,
-        ByteRead::Refused(refusal) => {
-            return HeadRead::Refused(refusal);
-        }
-    };
-    let h = match byte_in(s, 7, 6, 1, 255) {
-        ByteRead::Byte(b) => b,
-        ByteRead::Refused(refusal) => {
-            return HeadRead::Refused(refusal);
-        }
-    };
+    let n = byte_in(s, 6, Refusal::Threads, 1, 16)?;
+    let h = byte_in(s, 7, Refusal::Bound, 1, 255)?;
     let least = object::least_capacity(object);
     let most = object::most_capacity(object);
-    let capacity = match byte_in(s, 8, 7, least, most) {
-        ByteRead::Byte(b) => b,
-        ByteRead::Refused(refusal) => {
-            return HeadRead::Refused(refusal);
-        }
-    };
-    match read_method(s, version) {
-        MethodRead::Known(method) => HeadRead::Whole(Head {
-            version,
-            object,
-            n,
-            h,
-            capacity,
-            method,
-        }),
-        MethodRead::Refused(refusal) => HeadRead::Refused(refusal),
-    }
+    let capacity = byte_in(s, 8, Refusal::Capacity, least, most)?;
+    let method = read_method(s, version)?;
+    Ok(Head {
+        version,
+        object,
+        n,
+        h,
+        capacity,
+        method,
+    })
 }
 
 // All bytes before the rows.
-fn read_head(s: &[u8]) -> HeadRead
+fn read_head(s: &[u8]) -> Result<Head, Refusal>
     ensures result_value { head_read s.now result ≡ head_reader s.now }
     ensures head_inside { HeadInside s.now result }
 {
-    let version = match read_start(s) {
-        StartRead::Version(version) => version,
-        StartRead::Refused(refusal) => {
-            return HeadRead::Refused(refusal);
-        }
-    };
-    match byte_in(s, 5, 4, 0, 2) {
-        ByteRead::Byte(b) => read_limits(s, version, object::kind_of(b)),
-        ByteRead::Refused(refusal) => HeadRead::Refused(refusal),
-    }
+    let version = read_start(s)?;
+    let b = byte_in(s, 5, Refusal::Object, 0, 2)?;
+    read_limits(s, version, object::kind_of(b))
 }
 
 // A request: code and value.
-fn read_request(s: &[u8], at: usize, object: Kind) -> Reached
+fn read_request(s: &[u8], at: usize, object: Kind) -> Result<Reached, Refusal>
     ensures result_value { reached s.now result ≡ tallied single (request_reader object (drop at s.now)) }
     ensures ahead { Ahead s.now at result }
 {
     let least = object::least_code(object);
     let most = object::most_code(object);
-    let code = match byte_in(s, at, 9, least, most) {
-        ByteRead::Byte(b) => b,
-        ByteRead::Refused(refusal) => {
-            return Reached::Refused(refusal);
-        }
-    };
+    let code = byte_in(s, at, Refusal::Request, least, most)?;
     if s.len() - at < 5 {
-        return Reached::Refused(1);
+        return Err(Refusal::CutOff);
     }
     let value = number4(s, at + 1);
     if object::value_allowed(code, value) {
-        return Reached::At {
+        return Ok(Reached {
             next: at + 5,
             count: 1,
-        };
+        });
     }
-    Reached::Refused(9)
+    Err(Refusal::Request)
 }
 
 // So many requests.
-fn read_requests(s: &[u8], at: usize, object: Kind, count: usize) -> Reached
+fn read_requests(s: &[u8], at: usize, object: Kind, count: usize) -> Result<Reached, Refusal>
     requires { at ≤ length s.now }
     ensures result_value { reached s.now result ≡ tallied (sum_of single) (several count (request_reader object) (drop at s.now)) }
     ensures ahead { Ahead s.now at result }
@@ -268,25 +208,16 @@ fn read_requests(s: &[u8], at: usize, object: Kind, count: usize) -> Reached
     let mut done = 0usize;
     let mut i = 0usize;
     while i < count {
-        match read_request(s, next, object) {
-            Reached::At {
-                next: after,
-                count: more,
-            } => {
-                next = after;
-                done += more;
-            }
-            Reached::Refused(refusal) => {
-                return Reached::Refused(refusal);
-            }
-        }
+        let more = read_request(s, next, object)?;
+        next = more.next;
+        done += more.count;
         i += 1;
     }
-    Reached::At { next, count: done }
+    Ok(Reached { next, count: done })
 }
 
 // A row of so many requests, from its first byte on.
-pub fn read_request_row(row: &[u8], object: Kind, count: usize) -> Reached
+pub fn read_request_row(row: &[u8], object: Kind, count: usize) -> Result<Reached, Refusal>
     ensures result_value { reached row.now result ≡ tallied (sum_of single) (several count (request_reader object) row.now) }
     ensures ahead { Ahead row.now 0 result }
 {
@@ -294,18 +225,16 @@ pub fn read_request_row(row: &[u8], object: Kind, count: usize) -> Reached
 }
 
 // A thread's count and its requests.
-fn read_row(s: &[u8], at: usize, object: Kind) -> Reached
+fn read_row(s: &[u8], at: usize, object: Kind) -> Result<Reached, Refusal>
     ensures result_value { reached s.now result ≡ tallied length (row_reader object (drop at s.now)) }
     ensures ahead { Ahead s.now at result }
 {
-    match byte_in(s, at, 8, 0, 16) {
-        ByteRead::Byte(count) => read_requests(s, at + 1, object, count as usize),
-        ByteRead::Refused(refusal) => Reached::Refused(refusal),
-    }
+    let count = byte_in(s, at, Refusal::Count, 0, 16)?;
+    read_requests(s, at + 1, object, count as usize)
 }
 
 // The rows of n threads.
-fn read_rows(s: &[u8], at: usize, object: Kind, n: u8) -> Reached
+fn read_rows(s: &[u8], at: usize, object: Kind, n: u8) -> Result<Reached, Refusal>
     requires { at ≤ length s.now }
     ensures result_value { reached s.now result ≡ tallied (sum_of length) (several n (row_reader object) (drop at s.now)) }
     ensures ahead { Ahead s.now at result }
@@ -314,21 +243,12 @@ fn read_rows(s: &[u8], at: usize, object: Kind, n: u8) -> Reached
     let mut done = 0usize;
     let mut i = 0u8;
     while i < n {
-        match read_row(s, next, object) {
-            Reached::At {
-                next: after,
-                count: more,
-            } => {
-                next = after;
-                done += more;
-            }
-            Reached::Refused(refusal) => {
-                return Reached::Refused(refusal);
-            }
-        }
+        let more = read_row(s, next, object)?;
+        next = more.next;
+        done += more.count;
         i += 1;
     }
-    Reached::At { next, count: done }
+    Ok(Reached { next, count: done })
 }
 
 // Whether every byte of a row, of entries or of counts, is below a bound. The loop has no early exit, so that many bytes are compared at once.
@@ -345,7 +265,7 @@ pub fn every_below(row: &[u8], bound: u8) -> bool
 }
 
 // So many entries. Those that are there are judged first: one that is not below n comes before the end that cuts off a later one.
-fn read_entries(s: &[u8], at: usize, n: u8, count: usize) -> Reached
+fn read_entries(s: &[u8], at: usize, n: u8, count: usize) -> Result<Reached, Refusal>
     requires { at ≤ length s.now }
     ensures result_value { reached s.now result ≡ tallied (sum_of single) (several count (entry_reader n) (drop at s.now)) }
     ensures ahead { Ahead s.now at result }
@@ -356,70 +276,61 @@ fn read_entries(s: &[u8], at: usize, n: u8, count: usize) -> Reached
     }
     if every_below(&s[at..at + there], n) {
         if there < count {
-            return Reached::Refused(1);
+            return Err(Refusal::CutOff);
         }
-        return Reached::At {
+        return Ok(Reached {
             next: at + count,
             count,
-        };
+        });
     }
-    Reached::Refused(11)
+    Err(Refusal::Entry)
 }
 
 // The schedule's length and its entries.
-fn read_schedule(s: &[u8], at: usize, n: u8) -> Reached
+fn read_schedule(s: &[u8], at: usize, n: u8) -> Result<Reached, Refusal>
     requires { at ≤ length s.now }
     ensures result_value { reached s.now result ≡ tallied length (schedule_reader n (drop at s.now)) }
     ensures ahead { Ahead s.now at result }
 {
     if s.len() - at < 2 {
-        return Reached::Refused(1);
+        return Err(Refusal::CutOff);
     }
     let entries = number2(s, at);
     if 32768 < entries {
-        return Reached::Refused(10);
+        return Err(Refusal::ScheduleLength);
     }
     read_entries(s, at + 2, n, entries as usize)
 }
 
 // From the schedule on, with the requests counted.
-fn judge_schedule(s: &[u8], at: usize, head: Head, requests: usize) -> Judged
+fn judge_schedule(s: &[u8], at: usize, head: Head, requests: usize) -> Result<Judged, Refusal>
     requires { at ≤ length s.now }
-    ensures { result ≡ schedule_as head requests (tallied length (schedule_reader head.n (drop at s.now))) }
+    ensures { by_number result ≡ schedule_as head requests (tallied length (schedule_reader head.n (drop at s.now))) }
 {
-    match read_schedule(s, at, head.n) {
-        Reached::At { next, count } => {
-            if next < s.len() {
-                return Judged::Refused(12);
-            }
-            Judged::Accepted {
-                head,
-                requests,
-                entries: count,
-            }
-        }
-        Reached::Refused(refusal) => Judged::Refused(refusal),
+    let schedule = read_schedule(s, at, head.n)?;
+    if schedule.next < s.len() {
+        return Err(Refusal::Trailing);
     }
+    Ok(Judged {
+        head,
+        requests,
+        entries: schedule.count,
+    })
 }
 
 // From the rows on.
-fn judge_rows(s: &[u8], head: Head) -> Judged
+fn judge_rows(s: &[u8], head: Head) -> Result<Judged, Refusal>
     requires { head_length head.version ≤ length s.now }
-    ensures { result ≡ rows_as head (tallied (sum_of length) (several head.n (row_reader head.object) (drop (head_length head.version) s.now))) }
+    ensures { by_number result ≡ rows_as head (tallied (sum_of length) (several head.n (row_reader head.object) (drop (head_length head.version) s.now))) }
 {
-    let object = head.object;
-    match read_rows(s, head_bytes(head.version), object, head.n) {
-        Reached::At { next, count } => judge_schedule(s, next, head, count),
-        Reached::Refused(refusal) => Judged::Refused(refusal),
-    }
+    let rows = read_rows(s, head_bytes(head.version), head.object, head.n)?;
+    judge_schedule(s, rows.next, head, rows.count)
 }
 
 // Judges any bytes as a bench file, front to back.
-pub fn judge(file: &[u8]) -> Judged
+pub fn judge(file: &[u8]) -> Result<Judged, Refusal>
     ensures { Judges file.now result }
 {
-    match read_head(file) {
-        HeadRead::Whole(head) => judge_rows(file, head),
-        HeadRead::Refused(refusal) => Judged::Refused(refusal),
-    }
+    let head = read_head(file)?;
+    judge_rows(file, head)
 }

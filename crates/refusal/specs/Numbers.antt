@@ -25,3 +25,8 @@ number Conversion = 16
 abbrev pub number_in : {A : Type 0} → Result A Refusal → ℕ
 number_in (Ok a) = 0
 number_in (Err refusal) = number refusal
+
+-- an answer by its number, which stands for the refusal in the papers
+abbrev pub by_number : {A : Type 0} → Result A Refusal → Result A ℕ
+by_number (Ok a) = Ok a
+by_number (Err refusal) = Err (number refusal)

@@ -1,17 +1,19 @@
 -- A head, and then from the rows on. Assumes nothing.
 use Rattle.std.proofs.Common.{sym, ◌∙◌, arith}
+use Rattle.std.proofs.lemmas.Result.{err_from_is_err_and}
 use Rattle.bench_file.proofs.Judging.{judged_head, judged_refused, judges}
 use Rattle.bench_file.proofs.Each.{each_at}
 use Rattle.bench_file.proofs.judge.Goals as goal
 
-pub returns-in-Whole : goal.returns-in-Whole
-returns-in-Whole c =
+pub returns : goal.returns
+returns c =
     let s = c.args.file.now in
     judges s (each_at s (λ i. omega (arith, c.type_inv.file i)))
-    (c.judge_rows.ensures ∙ sym (judged_head s c.in-Whole.head (sym c.in-Whole.ensures.result_value)))
+    (c.judge_rows.ensures ∙ sym (judged_head s c.in_ok-head.head (sym c.in_ok-head.ensures.result_value)))
 
-pub returns-in-Refused : goal.returns-in-Refused
-returns-in-Refused c =
+pub returns-in_err-head : goal.returns-in_err-head
+returns-in_err-head c =
     let s = c.args.file.now in
+    let p = err_from_is_err_and c.from_residual.result c.from_residual.ensures.1 in
     judges s (each_at s (λ i. omega (arith, c.type_inv.file i)))
-    (sym (judged_refused s c.in-Refused.refusal (sym c.in-Refused.ensures.result_value)))
+    (rw (p.1, p.2) (sym (judged_refused s _ (sym c.in_err-head.ensures.result_value))))

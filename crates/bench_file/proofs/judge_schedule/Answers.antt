@@ -3,5 +3,5 @@ use Rattle.std.proofs.Common.{sym}
 use Rattle.bench_file.proofs.Reading.{cons_at}
 use Rattle.bench_file.proofs.judge_schedule.Goals as goal
 
-pub returns-then-next-s : goal.returns-then-next-s
-returns-then-next-s c = rw (sym c.in-At.ensures.result_value, cons_at c.args.s.now c.in-At.next c.if-next-s.true)
+pub returns-then-schedule-s : goal.returns-then-schedule-s
+returns-then-schedule-s c = rw (sym c.in_ok-schedule.ensures.result_value, cons_at c.args.s.now c.in_ok-schedule.schedule.next c.if-schedule-s.true)
