@@ -12,14 +12,13 @@ use Rattle.object.specs.declared.Kind.{Kind}
 use Rattle.object.specs.declared.Request.{Request}
 use Rattle.object.specs.Paper.{kind_of}
 use Rattle.object.proofs.Inverse.{kind_of_number}
-use Rattle.machine.specs.Methods.{method_of}
 use Rattle.bench_file.specs.Reading.{Outcome, refused, read, after, rules, several}
 use Rattle.bench_file.specs.Layout.{Fields, Judgement, accepted, refused_by, judged, judge_of, request_reader}
 use Rattle.object.specs.Each.{Each, sum_of}
 use Rattle.bench_file.specs.Bytes.{request_bytes, each_bytes, row_bytes, bytes_of, Byte, RequestInRange, RowInRange, CapacityInRange, InRange}
 use Rattle.bench_writer.specs.Buffer.{Fills}
 use Rattle.bench_writer.specs.Writer.{Writing, Given, head_given, total, dealt, interleaved, raw_bytes, most_method, number_rules, count_rules, size_rules, entry_rules, requests_reader, given_reader, given_of, written_as, write_of, WritesAs}
-use Rattle.bench_writer.specs.declared.Written.{Written}
+use Rattle.bench_writer.specs.Writer.{Written}
 use Rattle.object.proofs.Each.{each_take, each_drop, each_map, every_each}
 use Rattle.object.proofs.Within.{within_range}
 use Rattle.bench_file.proofs.Each.{each_bytes_length, each_bytes_take, each_bytes_drop}
@@ -187,9 +186,12 @@ judged_zero : (o : Outcome Fields) → judged o ≡ refused_by 0 → o ≡ refus
 judged_zero (refused refusal) e = cc
 judged_zero (read f rest) e = let z : ◌≡◌ {A = ℕ} 0 1 = cc in absurd (omega arith)
 
+pub given_tabled : (g : Given) {refusal : ℕ} → given_reader g g.requests ≡ refused refusal → 1 ≤ refusal
+given_tabled g {refusal} e = omega (arith, (given_numbered g).tabled g.requests refusal e)
+
 given_never : (g : Given) → given_of g ≡ refused_by 0 → ⊥
 unfolding given_of
-given_never g e = omega (arith, (given_numbered g).tabled g.requests 0 (judged_zero _ e))
+given_never g e = omega (arith, given_tabled g (judged_zero _ e))
 
 -- what is written without a refusal
 written_came : (g : Given) (room : ℕ) (j : Judgement) → given_of g ≡ j → (written_as room j).refusal ≡ 0 → (f : Fields) × (j ≡ accepted f) × ((written_as room j).bytes ≡ bytes_of f)

@@ -1,18 +1,19 @@
 // Writes a bench file of version 1 or 2: from its fields, or from a file of either version.
 #![tactic(auto)]
 
-ghost use Rattle.std.specs.Prelude.{◌≡◌, ℕ, ◌+◌, ◌*◌, ◌≤◌, List, ◌∷◌, length, drop};
+ghost use Rattle.std.specs.Prelude.{◌≡◌, ℕ, ◌+◌, ◌*◌, ◌≤◌, List, [], ◌∷◌, length, drop, OnOk};
 ghost use Rattle.object.specs.Each.{Each};
 ghost use Rattle.bench_file.specs.Layout.{head_length};
 ghost use Rattle.bench_file.specs.Bytes.{low_first, head_bytes, Byte};
 ghost use Rattle.bench_file.specs.Reading.{rules};
-ghost use Rattle.bench_file.specs.Cursor.{number_read, forgotten, numbered};
+ghost use Rattle.bench_file.specs.Cursor.{forgotten};
 ghost use Rattle.bench_writer.specs.Buffer.{Fills};
 ghost use Rattle.bench_writer.specs.Convert.{head_converted, Converts};
-ghost use Rattle.bench_writer.specs.Writer.{pasted, total, most_method, number_rules, count_rules, requests_reader, entry_rules, interleaved, raw_bytes, as_given, head_given, given_reader, WritesAs};
+ghost use Rattle.bench_writer.specs.Writer.{pasted, total, most_method, number_rules, count_rules, requests_reader, entry_rules, interleaved, raw_bytes, as_given, head_given, passed, given_reader, as_written, WritesAs};
 
-use bench_file::{Head, Judged, Reached};
+use bench_file::Head;
 use object::Kind;
+use refusal::Refusal;
 
 // What the writer is given: the file's numbers, a count of requests for each thread, the requests of all threads in the file's five-byte form, and the schedule.
 // The numbers are those of the C interface: a caller may give any, and those that no file has are refused.
@@ -27,13 +28,6 @@ pub struct Given<'a> {
     pub counts: &'a [u8],
     pub requests: &'a [u8],
     pub schedule: &'a [u8],
-}
-
-// The refusal, 0 for none, and how many bytes were written.
-#[derive(Clone, Copy)]
-pub struct Written {
-    pub refusal: u8,
-    pub length: usize,
 }
 
 // A method's greatest number: version 1 has method 0 only.
@@ -60,98 +54,87 @@ fn total_of(counts: &[u8]) -> usize
     sum
 }
 
-// The row of counts: 0, or the refusal.
-fn judge_counts(n: u8, counts: &[u8]) -> u8
-    ensures { (bytes : List ℕ) → number_read bytes 0 result ≡ rules (count_rules n counts.now) bytes }
+// The row of counts.
+fn judge_counts(n: u8, counts: &[u8]) -> Result<(), Refusal>
+    ensures { (bytes : List ℕ) → passed bytes result ≡ rules (count_rules n counts.now) bytes }
 {
     let threads = n as usize;
     if counts.len() < threads {
-        return 1;
+        return Err(Refusal::CutOff);
     }
     if threads < counts.len() {
-        return 12;
+        return Err(Refusal::Trailing);
     }
     if bench_file::every_below(counts, 17) {
-        return 0;
+        return Ok(());
     }
-    8
+    Err(Refusal::Count)
 }
 
-// The row of requests, for so many requests: 0, or the refusal.
-fn judge_requests(object: Kind, count: usize, requests: &[u8]) -> u8
+// The row of requests, for so many requests.
+fn judge_requests(object: Kind, count: usize, requests: &[u8]) -> Result<(), Refusal>
     requires { count ≤ 16 * 255 }
-    ensures numbers { numbered result ≡ forgotten (requests_reader object count requests.now requests.now) }
+    ensures numbers { passed [] result ≡ forgotten (requests_reader object count requests.now requests.now) }
     ensures bytes { Each Byte requests.now }
 {
     if requests.len() < 5 * count {
-        return 1;
+        return Err(Refusal::CutOff);
     }
     if 5 * count < requests.len() {
-        return 12;
+        return Err(Refusal::Trailing);
     }
-    match bench_file::read_request_row(requests, object, count) {
-        Reached::At { next: _, count: _ } => 0,
-        Reached::Refused(refusal) => refusal,
-    }
+    bench_file::read_request_row(requests, object, count)?;
+    Ok(())
 }
 
-// The schedule: 0, or the refusal.
-fn judge_entries(n: u8, schedule: &[u8]) -> u8
-    ensures { (bytes : List ℕ) → number_read bytes 0 result ≡ rules (entry_rules n schedule.now) bytes }
+// The schedule.
+fn judge_entries(n: u8, schedule: &[u8]) -> Result<(), Refusal>
+    ensures { (bytes : List ℕ) → passed bytes result ≡ rules (entry_rules n schedule.now) bytes }
 {
     if 32768 < schedule.len() {
-        return 10;
+        return Err(Refusal::ScheduleLength);
     }
     if bench_file::every_below(schedule, n) {
-        return 0;
+        return Ok(());
     }
-    11
+    Err(Refusal::Entry)
 }
 
 impl Given<'_> {
-    // Version, object, n, h, capacity and method: 0, or the refusal.
-    fn judge_numbers(self) -> u8
-        ensures { let g = as_given self.entry in (bytes : List ℕ) → number_read bytes 0 result ≡ rules (number_rules g.version g.object g.n g.h g.capacity g.method) bytes }
+    // Version, object, n, h, capacity and method.
+    fn judge_numbers(self) -> Result<(), Refusal>
+        ensures { let g = as_given self.entry in (bytes : List ℕ) → passed bytes result ≡ rules (number_rules g.version g.object g.n g.h g.capacity g.method) bytes }
     {
         if !bench_file::version_known(self.version) {
-            return 3;
+            return Err(Refusal::Version);
         }
         if !object::between(0, self.object, 2) {
-            return 4;
+            return Err(Refusal::Object);
         }
         if !object::between(1, self.n, 16) {
-            return 5;
+            return Err(Refusal::Threads);
         }
         if !object::between(1, self.h, 255) {
-            return 6;
+            return Err(Refusal::Bound);
         }
         if !object::capacity_allowed(object::kind_of(self.object), self.capacity) {
-            return 7;
+            return Err(Refusal::Capacity);
         }
         if most_method(self.version) < self.method {
-            return 15;
+            return Err(Refusal::Method);
         }
-        0
+        Ok(())
     }
 
-    // All rules but the last, 13, in their order: 0, or the refusal.
-    fn judge(self) -> u8
-        ensures numbers { let g = as_given self.entry in numbered result ≡ forgotten (given_reader g g.requests) }
-        ensures bytes { result ≡ 0 → Each Byte self.entry.requests.now }
+    // All rules but the last, 13, in their order.
+    fn judge(self) -> Result<(), Refusal>
+        ensures numbers { let g = as_given self.entry in passed [] result ≡ forgotten (given_reader g g.requests) }
+        ensures bytes { OnOk result (Each Byte self.entry.requests.now) }
     {
-        let numbers = self.judge_numbers();
-        if numbers != 0 {
-            return numbers;
-        }
-        let row = judge_counts(self.n, self.counts);
-        if row != 0 {
-            return row;
-        }
+        self.judge_numbers()?;
+        judge_counts(self.n, self.counts)?;
         let count = total_of(self.counts);
-        let asked = judge_requests(object::kind_of(self.object), count, self.requests);
-        if asked != 0 {
-            return asked;
-        }
+        judge_requests(object::kind_of(self.object), count, self.requests)?;
         judge_entries(self.n, self.schedule)
     }
 
@@ -275,46 +258,34 @@ fn put_file(out: &mut [u8], given: Given)
     put(out, next + 2, given.schedule);
 }
 
-// Writes the bench file of given fields into a lent buffer, or refuses and leaves the buffer as it was.
-pub fn write(given: Given, out: &mut [u8]) -> Written
-    ensures { WritesAs (as_given given.entry) result out.old out.new }
+// Writes the bench file of given fields into a lent buffer, and answers its length, or refuses and leaves the buffer as it was.
+pub fn write(given: Given, out: &mut [u8]) -> Result<usize, Refusal>
+    ensures { WritesAs (as_given given.entry) (as_written result) out.old out.new }
 {
-    let refusal = given.judge();
-    if refusal != 0 {
-        return Written { refusal, length: 0 };
-    }
+    given.judge()?;
     let length = given.length();
     if out.len() < length {
-        return Written {
-            refusal: 13,
-            length: 0,
-        };
+        return Err(Refusal::Buffer);
     }
     put_file(out, given);
-    Written { refusal: 0, length }
+    Ok(length)
 }
 
 // A file's head in the wanted version, and behind it what stands behind the file's own; 16 where that version does not allow its method.
-fn convert_head(file: &[u8], head: Head, wanted: u16, out: &mut [u8]) -> Written
+fn convert_head(file: &[u8], head: Head, wanted: u16, out: &mut [u8]) -> Result<usize, Refusal>
     requires { head_length head.version ≤ length file.now }
-    ensures { Fills (head_converted wanted (length out.old) head (drop (head_length head.version) file.now)) result out.old out.new }
+    ensures { Fills (head_converted wanted (length out.old) head (drop (head_length head.version) file.now)) (as_written result) out.old out.new }
 {
     let method = head.method;
     let by = machine::method_number(method);
     if most_method(wanted) < by {
-        return Written {
-            refusal: 16,
-            length: 0,
-        };
+        return Err(Refusal::Conversion);
     }
     let from = bench_file::head_bytes(head.version);
     let at = bench_file::head_bytes(wanted);
     let converted = at + (file.len() - from);
     if out.len() < converted {
-        return Written {
-            refusal: 13,
-            length: 0,
-        };
+        return Err(Refusal::Buffer);
     }
     put_head(
         out,
@@ -324,29 +295,17 @@ fn convert_head(file: &[u8], head: Head, wanted: u16, out: &mut [u8]) -> Written
         },
     );
     put(out, at, &file[from..]);
-    Written {
-        refusal: 0,
-        length: converted,
-    }
+    Ok(converted)
 }
 
-// Judges any bytes as a bench file and writes it in the wanted version into a lent buffer, or refuses and leaves the buffer as it was. A file already in that
-// version is judged and copied.
-pub fn convert(file: &[u8], wanted: u16, out: &mut [u8]) -> Written
-    ensures { Converts file.now wanted result out.old out.new }
+// Judges any bytes as a bench file and writes it in the wanted version into a lent buffer, and answers its length there, or refuses and leaves the buffer as it
+// was. A file already in that version is judged and copied.
+pub fn convert(file: &[u8], wanted: u16, out: &mut [u8]) -> Result<usize, Refusal>
+    ensures { Converts file.now wanted (as_written result) out.old out.new }
 {
     if !bench_file::version_known(wanted) {
-        return Written {
-            refusal: 3,
-            length: 0,
-        };
+        return Err(Refusal::Version);
     }
-    match bench_file::judge(file) {
-        Judged::Accepted {
-            head,
-            requests: _,
-            entries: _,
-        } => convert_head(file, head, wanted, out),
-        Judged::Refused(refusal) => Written { refusal, length: 0 },
-    }
+    let judged = bench_file::judge(file)?;
+    convert_head(file, judged.head, wanted, out)
 }

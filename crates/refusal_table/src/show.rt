@@ -1,7 +1,6 @@
 // What the judge and the writer answer, as words and numbers on standard output.
 ghost use Rattle.std.specs.Prelude.{◌<◌, ◌≤◌, length};
 
-use bench_file::Judged;
 use bench_writer::Given;
 use console::Output;
 
@@ -41,11 +40,8 @@ pub(crate) fn fill(row: &mut [u8], pattern: &[u8])
 pub(crate) fn judged(output: &mut Output, file: &[u8]) {
     output.text(b" judged");
     match bench_file::judge(file) {
-        Judged::Accepted {
-            head,
-            requests,
-            entries,
-        } => {
+        Ok(judged) => {
+            let head = judged.head;
             byte(output, 0);
             output.spaced(head.version as u64);
             let kind = head.object;
@@ -53,10 +49,10 @@ pub(crate) fn judged(output: &mut Output, file: &[u8]) {
             let method = head.method;
             let by = machine::method_number(method);
             bytes(output, &[object, head.n, head.h, head.capacity, by]);
-            output.spaced(requests as u64);
-            output.spaced(entries as u64);
+            output.spaced(judged.requests as u64);
+            output.spaced(judged.entries as u64);
         }
-        Judged::Refused(refusal) => byte(output, refusal),
+        Err(refusal) => byte(output, refusal.number()),
     }
 }
 
@@ -74,8 +70,8 @@ pub(crate) fn cuts(output: &mut Output, name: &[u8], file: &[u8]) {
 
 fn refusal(file: &[u8]) -> u8 {
     match bench_file::judge(file) {
-        Judged::Refused(refusal) => refusal,
-        _ => 0,
+        Ok(_) => 0,
+        Err(refusal) => refusal.number(),
     }
 }
 
@@ -103,12 +99,15 @@ pub(crate) fn written(output: &mut Output, given: Given, out: &mut [u8], room: u
     requires { room ≤ length out.old }
 {
     fill(out, &[0xAA]);
-    let answer = bench_writer::write(given, &mut out[0..room]);
+    let (refusal, length) = match bench_writer::write(given, &mut out[0..room]) {
+        Ok(length) => (0, length),
+        Err(refusal) => (refusal.number(), 0),
+    };
     output.text(b" written");
-    byte(output, answer.refusal);
-    output.spaced(answer.length as u64);
+    byte(output, refusal);
+    output.spaced(length as u64);
     held(output, out);
-    around(output, out, answer.length);
+    around(output, out, length);
     output.text(b"\n");
 }
 

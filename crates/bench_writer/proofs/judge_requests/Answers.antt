@@ -1,11 +1,11 @@
 -- So many bytes as the counts ask, and then so many requests. Assumes nothing.
-use Rattle.std.proofs.Common.{sym, ap, ◌∙◌, le-leb, ne_eqb}
+use Rattle.std.proofs.Common.{ap, ◌∙◌, le-leb}
 use Rattle.std.proofs.lemmas.Bool.{lt-leb}
+use Rattle.std.proofs.lemmas.Result.{err_from_is_err_and}
 use Rattle.object.specs.Each.{sum_of}
 use Rattle.bench_file.specs.Reading.{several}
 use Rattle.bench_file.specs.Layout.{request_reader}
 use Rattle.bench_file.specs.Cursor.{forgotten, single}
-use Rattle.bench_file.proofs.Numbered.{several_numbered, request_numbered, tallied_numbered}
 use Rattle.bench_writer.specs.Writer.{requests_reader}
 use Rattle.bench_writer.proofs.Forgotten.{forgotten_tallied}
 use Rattle.bench_writer.proofs.judge_requests.Goals as goal
@@ -19,17 +19,17 @@ unfolding requests_reader
 returns-then-count-requests-clause-numbers c =
     simp (le-leb _ _ c.if-requests-count.false, lt-leb _ _ c.if-count-requests.true)
 
-pub returns-in-At-clause-numbers : goal.returns-in-At-clause-numbers
+pub returns-clause-numbers : goal.returns-clause-numbers
 unfolding requests_reader
-returns-in-At-clause-numbers c =
+returns-clause-numbers c =
     let a = c.args in
     simp (le-leb _ _ c.if-requests-count.false, le-leb _ _ c.if-count-requests.false)
-    (ap forgotten c.in-At.ensures.result_value ∙ forgotten_tallied (sum_of single) (several a.count (request_reader a.object) a.requests.now))
+    (ap forgotten c.in_ok-read_request_row.ensures.result_value ∙ forgotten_tallied (sum_of single) (several a.count (request_reader a.object) a.requests.now))
 
-pub returns-in-Refused-clause-numbers : goal.returns-in-Refused-clause-numbers
+pub returns-in_err-read_request_row-clause-numbers : goal.returns-in_err-read_request_row-clause-numbers
 unfolding requests_reader
-returns-in-Refused-clause-numbers c =
+returns-in_err-read_request_row-clause-numbers c =
     let a = c.args in
-    let e = c.in-Refused.ensures.result_value in
-    simp (le-leb _ _ c.if-requests-count.false, le-leb _ _ c.if-count-requests.false, ne_eqb _ _ (tallied_numbered (sum_of single) (several_numbered (request_numbered a.object) a.count) a.requests.now (sym e)))
-    (ap forgotten e ∙ forgotten_tallied (sum_of single) (several a.count (request_reader a.object) a.requests.now))
+    let p = err_from_is_err_and c.from_residual.result c.from_residual.ensures.1 in
+    rw (p.1, p.2) (simp (le-leb _ _ c.if-requests-count.false, le-leb _ _ c.if-count-requests.false)
+    (ap forgotten c.in_err-read_request_row.ensures.result_value ∙ forgotten_tallied (sum_of single) (several a.count (request_reader a.object) a.requests.now)))

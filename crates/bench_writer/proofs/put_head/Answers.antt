@@ -1,7 +1,5 @@
 -- Nine bytes, and from version 2 on the method's behind them. Assumes nothing.
 use Rattle.std.proofs.Common.{ℕ, ◌/◌, ◌%◌, List, [], ◌∷◌, refl, eq-eqb, ne_eqb}
-use Rattle.object.specs.Paper.{kind_number}
-use Rattle.machine.specs.Methods.{method_number}
 use Rattle.bench_file.specs.Bytes.{low_first}
 use Rattle.bench_writer.proofs.Pasted.{pasted_behind}
 use Rattle.bench_writer.proofs.put_head.Goals as goal

@@ -1,52 +1,56 @@
 -- Refused, too short a buffer, or the whole file. Assumes nothing.
-use Rattle.std.proofs.Common.{◌≡◌, ◌+◌, ◌≤◌, ℕ, length, refl, ◌∙◌, arith}
+use Rattle.std.proofs.Common.{◌≡◌, ◌+◌, [], length, refl, ◌∙◌, arith}
+use Rattle.std.proofs.lemmas.Result.{err_from_is_err_and}
 use native.Mathlib.Nat.{zero-add}
+use Rattle.object.specs.Each.{Each}
+use Rattle.bench_file.specs.Reading.{read}
+use Rattle.bench_file.specs.Bytes.{Byte}
+use Rattle.bench_file.specs.Cursor.{forgotten}
 use Rattle.bench_file.specs.Layout.{Fields, head_length}
 use Rattle.bench_writer.specs.Writer.{Given, as_given, given_reader, raw_bytes}
-use Rattle.bench_writer.proofs.Forgotten.{numbered_refused, numbered_read}
+use Rattle.bench_writer.proofs.Forgotten.{forgotten_refused, forgotten_read}
 use Rattle.bench_writer.proofs.Laying.{interleaved_length, raw_length}
-use Rattle.bench_writer.proofs.Writing.{Takes, takes, write_refused, write_short, write_whole, writes}
+use Rattle.bench_writer.proofs.Writing.{Takes, takes, given_tabled, write_refused, write_short, write_whole, writes}
 use Rattle.bench_writer.proofs.write.Goals as goal
-use Rattle.bench_writer.proofs.write.Goals.{After-judge-refusal}
 
 -- what no rule refuses is taken, with its fields
-taken : (c : After-judge-refusal) → c.judge-refusal.result ≡ 0 → (f : Fields) × Takes (as_given c.args.given) f
-taken c z =
-    let g = as_given c.args.given in
-    let (f, rest, h) = numbered_read (given_reader g g.requests) _ c.judge-refusal.ensures.numbers z in
-    (f, takes g f rest (c.judge-refusal.ensures.bytes z) h)
+taken : (g : Given) → Each Byte g.requests → read tt [] ≡ forgotten (given_reader g g.requests) → (f : Fields) × Takes g f
+taken g p e = let (f, rest, h) = forgotten_read (given_reader g g.requests) e in (f, takes g f rest p h)
 
 size : (g : Given) {f : Fields} → Takes g f → length (raw_bytes g) ≡ head_length g.version + 2 + length g.counts + length g.requests + length g.schedule
 size g t = omega (arith, raw_length g, interleaved_length g.counts g.requests (omega (arith, t.asked)), t.asked)
 
-pub returns-then-refusal-ne0 : goal.returns-then-refusal-ne0
-returns-then-refusal-ne0 c =
+pub returns-in_err-judge : goal.returns-in_err-judge
+returns-in_err-judge c =
     let g = as_given c.args.given in
-    writes g _ _ _ c.judge-refusal.ensures.bytes (write_refused g _ _ (numbered_refused (given_reader g g.requests) _ c.judge-refusal.ensures.numbers c.if-refusal-ne0.true)) refl refl refl
+    let refused = forgotten_refused (given_reader g g.requests) c.in_err-judge.ensures.numbers in
+    let err = err_from_is_err_and c.from_residual.result c.from_residual.ensures.1 in
+    rw (err.1, err.2) (writes g _ _ _ (λ z. absurd (omega (arith, given_tabled g refused, z))) (write_refused g _ _ refused) refl refl refl)
 
 pub length-length-requires : goal.length-length-requires
 length-length-requires c =
-    let t = (taken (goal.at.length-length-requires c).After-judge-refusal c.if-refusal-ne0.false).1 in
+    let (f, t) = taken (as_given c.args.given) c.in_ok-judge.ensures.bytes c.in_ok-judge.ensures.numbers in
     omega (arith, t.threads, t.few, t.asked, t.entries)
 
 pub returns-then-out-length : goal.returns-then-out-length
 returns-then-out-length c =
     let g = as_given c.args.given in
-    let (f, t) = taken (goal.at.returns-then-out-length c).After-judge-refusal c.if-refusal-ne0.false in
-    writes g _ _ _ (λ _. c.judge-refusal.ensures.bytes c.if-refusal-ne0.false)
-    (write_short g f (length c.args.out.now) t (omega (arith, size g t, c.length-length.ensures, c.if-out-length.true))) refl refl refl
+    let p = c.in_ok-judge.ensures.bytes in
+    let (f, t) = taken g p c.in_ok-judge.ensures.numbers in
+    writes g _ _ _ (λ _. p) (write_short g f (length c.args.out.now) t (omega (arith, size g t, c.length-length.ensures, c.if-out-length.true))) refl refl refl
 
 pub put_file-requires : goal.put_file-requires
 put_file-requires c =
     let g = as_given c.args.given in
-    let (f, t) = taken (goal.at.put_file-requires c).After-judge-refusal c.if-refusal-ne0.false in
+    let (f, t) = taken g c.in_ok-judge.ensures.bytes c.in_ok-judge.ensures.numbers in
     (t.object, t.method, omega (arith, t.asked), omega (arith, size g t, c.length-length.ensures, c.if-out-length.false))
 
 pub returns : goal.returns
 returns c =
     let g = as_given c.args.given in
-    let (f, t) = taken (goal.at.returns c).After-judge-refusal c.if-refusal-ne0.false in
+    let p = c.in_ok-judge.ensures.bytes in
+    let (f, t) = taken g p c.in_ok-judge.ensures.numbers in
     let long = size g t in
-    writes g _ _ _ (λ _. c.judge-refusal.ensures.bytes c.if-refusal-ne0.false)
+    writes g _ _ _ (λ _. p)
     (write_whole g f (length c.args.out.now) t (omega (arith, long, c.length-length.ensures, c.if-out-length.false)))
     refl (omega (arith, long, c.length-length.ensures)) (c.put_file.ensures ∙ rw zero-add)
