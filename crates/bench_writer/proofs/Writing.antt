@@ -28,6 +28,7 @@ use Rattle.bench_file.proofs.Size.{request_length}
 use Rattle.bench_file.proofs.Numbered.{Numbered, done_numbered, after_numbered, several_numbered, request_numbered}
 use Rattle.bench_writer.proofs.Filling.{fitted_whole, fitted_came, fills, filled, filled_as}
 use Rattle.bench_writer.proofs.Methods.{method_known, method_first}
+use Rattle.bench_writer.proofs.Rows.{total_bound}
 use Rattle.bench_writer.proofs.Rules.{rules_kept, rules_numbered}
 use Rattle.bench_writer.proofs.Whole.{written_back}
 use Rattle.bench_file.proofs.RoundTrip.{capacity_range, request_codec, judged_came, reads_back}
@@ -141,11 +142,6 @@ module _ (g : Given) (f : Fields) where
   pub given_in_range : Each Byte g.requests → given_of g ≡ accepted f → InRange f
   given_in_range p e = taken_range (taken g f p e)
 
-total_bound : (counts : List ℕ) → Each (λ count. count ≤ 16) counts → total counts ≤ 16 * length counts
-unfolding sum_of
-total_bound [] p = omega arith
-total_bound (count ∷ counts) p = omega (arith, p.0, total_bound counts p.1)
-
 -- what the code needs of fields that the writer was given and takes
 pub record Takes (g : Given) (f : Fields) : Type 0 where
   pub fields : given_of g ≡ accepted f
@@ -166,7 +162,7 @@ takes g f rest p e =
       object = t.object;
       method = method_known g.version g.method t.method;
       threads = omega (arith, t.threads, t.n);
-      few = omega (arith, total_bound g.counts t.counts, t.threads, t.n);
+      few = omega (arith, total_bound 16 g.counts t.counts, t.threads, t.n);
       asked = ap length t.whole ∙ each_bytes_length request_bytes 5 request_length t.requests ∙ ap (λ (k : ℕ). 5 * k) t.number;
       entries = t.entries;
       bytes = taken_bytes g f t;

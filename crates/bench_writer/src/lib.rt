@@ -45,13 +45,7 @@ fn total_of(counts: &[u8]) -> usize
     requires { length counts.now ≤ 16 }
     ensures { (result ≡ total counts.now) × (result ≤ 16 * 255) }
 {
-    let mut sum = 0usize;
-    let mut i = 0usize;
-    while i < counts.len() {
-        sum += counts[i] as usize;
-        i += 1;
-    }
-    sum
+    counts.iter().map(|count| usize::from(*count)).sum()
 }
 
 // The row of counts.
@@ -178,12 +172,9 @@ fn put_head(out: &mut [u8], head: Head)
     requires { head_length head.version ≤ length out.old }
     ensures { out.new ≡ pasted out.old 0 (head_bytes head) }
 {
+    let [low, high] = head.version.to_le_bytes();
     let kind = head.object;
     let object = object::kind_number(kind);
-    let by = head.method;
-    let method = machine::method_number(by);
-    let low = (head.version % 256) as u8;
-    let high = (head.version / 256 % 256) as u8;
     put(
         out,
         0,
@@ -202,19 +193,17 @@ fn put_head(out: &mut [u8], head: Head)
     if head.version == 1 {
         return;
     }
+    let by = head.method;
+    let method = machine::method_number(by);
     put(out, 9, &[method]);
 }
 
 // The schedule's length, two bytes.
 fn put_length(out: &mut [u8], at: usize, entries: usize)
-    requires { at + 2 ≤ length out.old }
+    requires { (entries ≤ 32768) × (at + 2 ≤ length out.old) }
     ensures { out.new ≡ pasted out.old at (low_first 2 entries) }
 {
-    put(
-        out,
-        at,
-        &[(entries % 256) as u8, (entries / 256 % 256) as u8],
-    );
+    put(out, at, &(entries as u16).to_le_bytes());
 }
 
 // A thread's count and its requests, which are five bytes each.
@@ -233,22 +222,19 @@ fn put_rows(out: &mut [u8], at: usize, counts: &[u8], requests: &[u8]) -> usize
     ensures out_after { out.new ≡ pasted out.old at (interleaved counts.now requests.now) }
 {
     let mut next = at;
-    let mut from = 0usize;
-    let mut i = 0usize;
-    while i < counts.len() {
-        let count = counts[i];
-        let end = from + 5 * (count as usize);
-        put_row(out, next, count, &requests[from..end]);
-        next += 1 + (end - from);
-        from = end;
-        i += 1;
+    let mut left = requests;
+    for count in counts {
+        let (row, rest) = left.split_at(5 * usize::from(*count));
+        put_row(out, next, *count, row);
+        next += 1 + row.len();
+        left = rest;
     }
     next
 }
 
 // The whole file, from the buffer's first byte on.
 fn put_file(out: &mut [u8], given: Given)
-    requires { let g = as_given given in (g.object ≤ 2) × (g.method ≤ 1) × (5 * total g.counts ≤ length g.requests) × (length (raw_bytes g) ≤ length out.old) }
+    requires { let g = as_given given in (g.object ≤ 2) × (g.method ≤ 1) × (length g.schedule ≤ 32768) × (5 * total g.counts ≤ length g.requests) × (length (raw_bytes g) ≤ length out.old) }
     ensures { out.new ≡ pasted out.old 0 (raw_bytes (as_given given.entry)) }
 {
     put_head(out, given.head());

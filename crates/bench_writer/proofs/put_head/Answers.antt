@@ -6,7 +6,7 @@ use Rattle.bench_writer.proofs.put_head.Goals as goal
 
 pub returns-then-head-eq1 : goal.returns-then-head-eq1
 unfolding low_first
-returns-then-head-eq1 c = rw (eq-eqb _ _ c.if-head-eq1.true, ← c.kind_number-object.ensures) c.put.ensures
+returns-then-head-eq1 c = rw (eq-eqb _ _ c.if-head-eq1.true, ← c.kind_number-object.ensures) (rw c.to_le_bytes.ensures at c.put.ensures)
 
 pub returns : goal.returns
 unfolding low_first
@@ -14,4 +14,5 @@ returns c =
     let a = c.args in
     let head = a.head in
     let nine : List ℕ = 0x43 ∷ 0x43 ∷ 0x53 ∷ head.version % 256 ∷ head.version / 256 % 256 ∷ c.kind_number-object.result ∷ head.n ∷ head.h ∷ head.capacity ∷ [] in
-    rw (ne_eqb _ _ c.if-head-eq1.false, ← c.kind_number-object.ensures, ← c.method_number-method.ensures) (pasted_behind a.out.now nine (c.method_number-method.result ∷ []) 9 c.put.ensures refl c.put-2.ensures)
+    rw (ne_eqb _ _ c.if-head-eq1.false, ← c.kind_number-object.ensures, ← c.method_number-method.ensures)
+    (pasted_behind a.out.now nine (c.method_number-method.result ∷ []) 9 (rw c.to_le_bytes.ensures at c.put.ensures) refl c.put-2.ensures)

@@ -43,7 +43,7 @@ pub put_file-requires : goal.put_file-requires
 put_file-requires c =
     let g = as_given c.args.given in
     let (f, t) = taken g c.in_ok-judge.ensures.bytes c.in_ok-judge.ensures.numbers in
-    (t.object, t.method, omega (arith, t.asked), omega (arith, size g t, c.length-length.ensures, c.if-out-length.false))
+    (t.object, t.method, t.entries, omega (arith, t.asked), omega (arith, size g t, c.length-length.ensures, c.if-out-length.false))
 
 pub returns : goal.returns
 returns c =
