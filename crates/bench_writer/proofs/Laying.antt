@@ -45,9 +45,6 @@ module _ (counts : List ℕ) where
       pub ahead : next + length (rest_part i left) ≡ at + length (interleaved counts requests)
       pub laid : pasted buffer next (rest_part i left) ≡ pasted buffer₀ at (interleaved counts requests)
 
-    pub begins : 5 * total counts ≤ length requests → Laying buffer₀ at requests 0
-    begins h = record { asked = omega arith; size = refl; ahead = refl; laid = refl }
-
     module _ {buffer left : List ℕ} {next i : ℕ} (l : Laying buffer next left i) (fits : at + length (interleaved counts requests) ≤ length buffer₀) (below : i < length counts) where
       abbrev asks : ℕ
       asks = 5 * get_or counts i 0

@@ -267,9 +267,9 @@ fn convert_head(file: &[u8], head: Head, wanted: u16, out: &mut [u8]) -> Result<
     if most_method(wanted) < by {
         return Err(Refusal::Conversion);
     }
-    let from = bench_file::head_bytes(head.version);
+    let rest = &file[bench_file::head_bytes(head.version)..];
     let at = bench_file::head_bytes(wanted);
-    let converted = at + (file.len() - from);
+    let converted = at + rest.len();
     if out.len() < converted {
         return Err(Refusal::Buffer);
     }
@@ -280,7 +280,7 @@ fn convert_head(file: &[u8], head: Head, wanted: u16, out: &mut [u8]) -> Result<
             ..head
         },
     );
-    put(out, at, &file[from..]);
+    put(out, at, rest);
     Ok(converted)
 }
 
