@@ -1,10 +1,10 @@
 -- A loop that lays the rows into a buffer keeps what is left to lay: laws for its start, a pass and its end. Assumes nothing.
-use Prim.Native.Nat.{ℕ, ◌+◌, ◌-◌, ◌*◌, ◌≤◌, ◌<◌}
+use Prim.Native.Nat.{ℕ, ◌+◌, ◌*◌, ◌≤◌, ◌<◌}
 use native.Mathlib.Omega.{arith}
 use mathlib.Core.Path.{◌≡◌, refl, sym, ap, ◌∙◌}
 use mathlib.Core.List.{List, [], ◌∷◌, ◌++◌}
 use lib.ListN.{length, get_or, take, drop, length-append, length-drop, drop_of_length-le}
-use lib.Seq.{length-take-le, drop-drop}
+use lib.Seq.{length-take-le}
 use Rattle.object.proofs.Inverse.{kind_of_number}
 use Rattle.bench_writer.specs.Writer.{pasted, Given, head_given, total, interleaved, raw_bytes}
 use Rattle.object.specs.Each.{sum_of}
