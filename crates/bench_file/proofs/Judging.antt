@@ -1,22 +1,19 @@
 -- What the judge answers goes by the head, and then by how many requests and entries are read: `judged_as` of `judge_of`. Assumes nothing.
 use Prim.Native.Nat.{ℕ}
 use native.Mathlib.Omega.{arith}
-use mathlib.Core.Path.{◌≡◌, refl, sym, ap, ◌∙◌}
+use mathlib.Core.Path.{◌≡◌, refl, sym, ap}
 use mathlib.Core.List.{List, [], ◌∷◌}
 use lib.ListN.{length, drop}
 use Rattle.object.specs.declared.Request.{Request}
 use Rattle.bench_file.specs.declared.Head.{Head}
 use Rattle.std.specs.Prelude.{Result, Ok, Err}
-use Rattle.refusal.specs.declared.Refusal.{Refusal}
-use Rattle.refusal.specs.Numbers.{by_number}
-use Rattle.refusal.proofs.Numbers.{same_answer}
 use Rattle.bench_file.specs.declared.Judged.{Judged}
 use Rattle.bench_file.specs.Reading.{Outcome, refused, read, Reader, after, ◌>>=◌, ◌>>◌, done, several, end}
 use Rattle.bench_file.specs.Layout.{Fields, head_length, head_reader, row_reader, schedule_reader, file_reader, Judgement, accepted, refused_by, judged, judge_of}
 use Rattle.object.specs.Each.{Each, sum_of}
 use Rattle.bench_file.specs.Bytes.{Byte, Tabled}
 use Rattle.bench_file.specs.Cursor.{tallied, schedule_as, rows_as}
-use Rattle.bench_file.specs.Promise.{judged_as, judged_refusal, judged_requests, judged_entries, Judges}
+use Rattle.bench_file.specs.Promise.{judged_as, judged_refusal, Judges}
 use Rattle.bench_file.proofs.Numbered.{refused_tabled}
 use Rattle.bench_file.proofs.RoundTrip.{accepted_exactly}
 
@@ -53,7 +50,9 @@ pub apart : {judged : Judged} {number : ℕ} → ◌≡◌ {A = Result Judged �
 apart e = let z : ◌≡◌ {A = ℕ} 0 1 = cc in omega arith
 
 pub head_of : (f : Fields) {judged : Judged} → Ok judged ≡ judged_as (accepted f) → f.head ≡ judged.head
-head_of f {judged} e = let z : judged ≡ record { head = f.head; requests = sum_of length f.rows; entries = length f.schedule } = cc in ap (λ (j : Judged). j.head) (sym z)
+head_of f {judged} e =
+    let z : judged ≡ record { head = f.head; requests = sum_of length f.rows; entries = length f.schedule } = cc in
+    ap (λ (j : Judged). j.head) (sym z)
 
 pub accepted_fields : (j : Judgement) {judged : Judged} → Ok judged ≡ judged_as j → (f : Fields) × (j ≡ accepted f) × (f.head ≡ judged.head)
 accepted_fields (accepted f) e = (f, refl, head_of f e)
@@ -63,37 +62,20 @@ pub refused_number : (j : Judgement) {number : ℕ} → Err number ≡ judged_as
 refused_number (accepted f) e = absurd (apart (sym e))
 refused_number (refused_by n) e = ap refused_by cc
 
--- what an answer's number and counts are, by the judgement that it gives
-module _ (bs : List ℕ) where
-  answer_counts : (r : Result Judged Refusal) (f : Fields) → by_number r ≡ judged_as (accepted f) → (judged_requests r ≡ sum_of length f.rows) × (judged_entries r ≡ length f.schedule)
-  answer_counts (Ok judged) f e =
-      let z : judged ≡ record { head = f.head; requests = sum_of length f.rows; entries = length f.schedule } = cc in
-      (ap (λ (j : Judged). j.requests) z, ap (λ (j : Judged). j.entries) z)
-  answer_counts (Err refusal) f e = absurd (apart (sym e))
+-- what a judgement's number says of it
+number_of : (bs : List ℕ) (j : Judgement) → judge_of bs ≡ j
+    → ((judged_refusal (judged_as j) ≡ 0 → ⊥) → Tabled (judged_refusal (judged_as j))) × (judged_refusal (judged_as j) ≡ 0 → (f : Fields) × (judge_of bs ≡ accepted f))
+number_of bs (accepted f) e = (λ z. absurd (z refl), λ z. (f, e))
+number_of bs (refused_by refusal) e = (λ z. refused_tabled bs refusal e, λ z. absurd (omega (arith, refused_tabled bs refusal e)))
 
-  answer_refused : (r : Result Judged Refusal) (refusal : ℕ) → by_number r ≡ judged_as (refused_by refusal) → (judged_refusal r ≡ refusal) × (judged_requests r ≡ 0) × (judged_entries r ≡ 0)
-  answer_refused (Ok judged) refusal e = absurd (apart e)
-  answer_refused (Err refusal) n e = (cc, refl, refl)
-
-  answer_numbers : (r : Result Judged Refusal) (j : Judgement) → judge_of bs ≡ j → by_number r ≡ judged_as j
-      → ((judged_refusal r ≡ 0 → ⊥) → Tabled (judged_refusal r)) × (judged_refusal r ≡ 0 → (f : Fields) × (judge_of bs ≡ accepted f))
-  answer_numbers (Ok judged) (accepted f) j e = (λ z. absurd (z refl), λ z. (f, j))
-  answer_numbers (Ok judged) (refused_by n) j e = absurd (apart e)
-  answer_numbers (Err refusal) (accepted f) j e = absurd (apart (sym e))
-  answer_numbers (Err refusal) (refused_by n) j e =
-      let (is, none, left) = answer_refused (Err refusal) n e in
-      let t = refused_tabled bs n j in
-      (λ z. rw is t, λ z. absurd (omega (arith, is, t)))
-
-pub judges : (bs : List ℕ) {r : Result Judged Refusal} → Each Byte bs → by_number r ≡ judged_as (judge_of bs) → Judges bs r
-judges bs {r} p e =
-    let (numbers, zero) = answer_numbers bs r (judge_of bs) refl e in
+pub judges : (bs : List ℕ) {r : Result Judged ℕ} → Each Byte bs → r ≡ judged_as (judge_of bs) → Judges bs r
+judges bs p e =
+    let n = number_of bs (judge_of bs) refl in
     record {
       answer = e;
-      only = λ other o. same_answer other r (o ∙ sym e);
       exactly = λ f. accepted_exactly bs f p;
-      counts = λ f a. answer_counts bs r f (rw a at e);
-      refused = λ refusal a. answer_refused bs r refusal (rw a at e);
-      numbers = numbers;
-      zero = zero;
+      counts = λ f a. rw (e, a) (refl, refl);
+      refused = λ refusal a. rw (e, a) (refl, refl, refl);
+      numbers = rw e n.0;
+      zero = rw e n.1;
     }

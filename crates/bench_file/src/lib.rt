@@ -329,7 +329,7 @@ fn judge_rows(s: &[u8], head: Head) -> Result<Judged, Refusal>
 
 // Judges any bytes as a bench file, front to back.
 pub fn judge(file: &[u8]) -> Result<Judged, Refusal>
-    ensures { Judges file.now result }
+    ensures { Judges file.now (by_number result) }
 {
     let head = read_head(file)?;
     judge_rows(file, head)

@@ -22,10 +22,10 @@ use Rattle.machine.specs.Sizes.{most_calls}
 use Rattle.state.specs.declared.Slot.{Slot}
 use Rattle.state.specs.Fresh.{fresh_state_by}
 use Rattle.step.specs.Entry.{zero_slot}
-use Rattle.claims.specs.Entries.{filled, slots_of, rows_of}
+use Rattle.claims.specs.Entries.{filled, slots_of, rows_of, start_by}
 use Rattle.claims.proofs.Filled.{sets_filled, set_filled}
 use Rattle.claims.proofs.Start.{slot_of, length_rows}
-use Rattle.loader.specs.Load.{slots_in, loaded_as}
+use Rattle.loader.specs.Load.{slots_in}
 use Rattle.loader.proofs.Decoded.{slots_decoded}
 
 -- from the schedule's length on
@@ -136,7 +136,8 @@ module _ {bytes : List ℕ} {head : Head} {i at : ℕ} {counts : List ℕ} {requ
   }
 
 pub walk_ends : {bytes : List ℕ} {head : Head} {i at : ℕ} {counts : List ℕ} {requests : List Slot} → Walk bytes head i at counts requests → head.n ≤ i
-    → fresh_state_by head.method head.object head.n head.h head.capacity counts requests ≡ (loaded_as (judge_of bytes)).state
-walk_ends {i = i} w h =
+    → (f : Fields) → judge_of bytes ≡ accepted f → fresh_state_by head.method head.object head.n head.h head.capacity counts requests ≡ start_by head.method f
+walk_ends {i = i} w h f e =
+    let same : f ≡ w.f = cc (sym e ∙ w.judged) in
     let all : take i w.f.rows ≡ w.f.rows = take_all i w.f.rows (rw (w.fits.threads, w.its_head) h) in
-    rw (w.judged, w.counted, w.laid, all, w.its_head)
+    rw (same, w.counted, w.laid, all, w.its_head)

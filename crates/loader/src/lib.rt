@@ -3,21 +3,23 @@
 
 ghost use Rattle.std.specs.Prelude.{◌≡◌, ◌+◌, ◌*◌, ◌≤◌, ◌<◌, length, drop};
 ghost use Rattle.std.proofs.lemmas.List.Edits.{sets};
+ghost use Rattle.refusal.specs.Numbers.{by_number};
 ghost use Rattle.bench_file.specs.Layout.{Fields, accepted, judge_of};
 ghost use Rattle.machine.specs.Sizes.{most_calls};
 ghost use Rattle.state.specs.Fresh.{fresh_thread, fresh_threads, fresh_node, fresh_tail, fresh_state_by};
 ghost use Rattle.step.specs.Entry.{zero_slot};
+ghost use Rattle.claims.specs.Entries.{start_by};
 ghost use Rattle.loader.specs.Load.{request_in, slots_in, loaded_as};
 
-use bench_file::{Head, Judged};
+use bench_file::Head;
 use machine::{Announced, Method, Node, NodeId, RetVal, Thread};
 use object::{Kind, Request};
+use refusal::Refusal;
 use state::{Counts, Slot, State};
 
-// What a file loads as: refusal 0 with how many requests and entries it has and its fresh machine, or its refusal, with all counts 0.
+// What an accepted file loads as: how many requests and entries it has, and its fresh machine.
 #[derive(Clone, Copy)]
 pub struct Loaded {
-    pub refusal: u8,
     pub requests: usize,
     pub entries: usize,
     pub state: State,
@@ -166,7 +168,7 @@ fn laid(
 // The fresh machine of an accepted file.
 fn machine_of(file: &[u8], head: Head) -> State
     requires { (f : Fields) × (judge_of file.now ≡ accepted f) × (f.head ≡ head) }
-    ensures { result ≡ (loaded_as (judge_of file.now)).state }
+    ensures { (f : Fields) → judge_of file.now ≡ accepted f → result ≡ start_by head.method f }
 {
     let method = head.method;
     let kind = head.object;
@@ -195,39 +197,13 @@ fn machine_of(file: &[u8], head: Head) -> State
 }
 
 // Judges any bytes as a bench file, and makes the fresh machine of the file.
-pub fn load(file: &[u8]) -> Loaded
-    ensures { result ≡ loaded_as (judge_of file.now) }
+pub fn load(file: &[u8]) -> Result<Loaded, Refusal>
+    ensures { by_number result ≡ loaded_as (judge_of file.now) }
 {
-    match bench_file::judge(file) {
-        Judged::Accepted {
-            head,
-            requests,
-            entries,
-        } => {
-            let state = machine_of(file, head);
-            Loaded {
-                refusal: 0,
-                requests,
-                entries,
-                state,
-            }
-        }
-        Judged::Refused(refusal) => {
-            let state = fresh(
-                Method::CcSynch,
-                Kind::Queue,
-                0,
-                0,
-                0,
-                [0; 16],
-                [no_request(); machine::CALLS],
-            );
-            Loaded {
-                refusal,
-                requests: 0,
-                entries: 0,
-                state,
-            }
-        }
-    }
+    let judged = bench_file::judge(file)?;
+    Ok(Loaded {
+        requests: judged.requests,
+        entries: judged.entries,
+        state: machine_of(file, judged.head),
+    })
 }

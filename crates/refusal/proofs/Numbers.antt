@@ -5,6 +5,8 @@ use mathlib.Core.Path.{◌≡◌, refl, sym, ap, ◌∙◌}
 use mathlib.Core.List.{[], ◌∷◌}
 use lib.ListN.{get_or}
 use Rattle.std.specs.Prelude.{Result, Ok, Err}
+use Rattle.std.specs.Result.{IsErr, IsErrAnd}
+use Rattle.std.proofs.lemmas.Result.{err_from_is_err_and}
 use Rattle.refusal.specs.declared.Refusal.{Refusal}
 use Rattle.refusal.specs.declared.Refusal.TheVariants.{CutOff, Mark, Version, Object, Threads, Bound, Capacity, Count, Request, ScheduleLength, Entry, Trailing, Buffer, OutOfRange, Method, Conversion}
 use Rattle.refusal.specs.Numbers.{number, by_number}
@@ -43,3 +45,7 @@ same_answer (Ok a) (Ok b) e = cc
 same_answer (Ok a) (Err s) e = let z : ◌≡◌ {A = ℕ} 0 1 = cc in absurd (omega arith)
 same_answer (Err r) (Ok b) e = let z : ◌≡◌ {A = ℕ} 0 1 = cc in absurd (omega arith)
 same_answer (Err r) (Err s) e = ap Err (same_refusal r s cc)
+
+-- what the exit of a `?` returns: the refusal that it passes on
+pub passed_on : {A : Type 0} (r : Result A Refusal) {refusal : Refusal} → IsErr r × IsErrAnd r (λ e. e ≡ refusal) → r ≡ Err refusal
+passed_on r p = let (e, is, same) = err_from_is_err_and r p.1 in is ∙ ap Err same

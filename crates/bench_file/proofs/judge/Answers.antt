@@ -1,6 +1,6 @@
 -- A head, and then from the rows on. Assumes nothing.
 use Rattle.std.proofs.Common.{sym, ◌∙◌, arith}
-use Rattle.std.proofs.lemmas.Result.{err_from_is_err_and}
+use Rattle.refusal.proofs.Numbers.{passed_on}
 use Rattle.bench_file.proofs.Judging.{judged_head, judged_refused, judges}
 use Rattle.bench_file.proofs.Each.{each_at}
 use Rattle.bench_file.proofs.judge.Goals as goal
@@ -14,6 +14,5 @@ returns c =
 pub returns-in_err-head : goal.returns-in_err-head
 returns-in_err-head c =
     let s = c.args.file.now in
-    let p = err_from_is_err_and c.from_residual.result c.from_residual.ensures.1 in
     judges s (each_at s (λ i. omega (arith, c.type_inv.file i)))
-    (rw (p.1, p.2) (sym (judged_refused s _ (sym c.in_err-head.ensures.result_value))))
+    (rw (passed_on c.from_residual.result c.from_residual.ensures) (sym (judged_refused s _ (sym c.in_err-head.ensures.result_value))))

@@ -1,6 +1,6 @@
 -- The fields before a return were read, and the one that it stops at was refused. Assumes nothing.
 use Rattle.std.proofs.Common.{◌≡◌, ℕ, List, drop, sym, ◌∙◌}
-use Rattle.std.proofs.lemmas.Result.{err_from_is_err_and}
+use Rattle.refusal.proofs.Numbers.{passed_on}
 use Rattle.object.specs.declared.Kind.{Kind}
 use Rattle.object.specs.Paper.{least_capacity, most_capacity}
 use Rattle.bench_file.specs.Reading.{read, after, done, ranged}
@@ -21,20 +21,17 @@ limits s version object e f g = simp (sym e, sym f, sym g)
 pub returns-in_err-n-clause-result_value : goal.returns-in_err-n-clause-result_value
 unfolding limits_reader
 returns-in_err-n-clause-result_value c =
-    let p = err_from_is_err_and c.from_residual.result c.from_residual.ensures.1 in
-    rw (p.1, p.2) (simp (sym c.in_err-n.ensures))
+    rw (passed_on c.from_residual.result c.from_residual.ensures) (simp (sym c.in_err-n.ensures))
 
 pub returns-in_err-h-clause-result_value : goal.returns-in_err-h-clause-result_value
 unfolding limits_reader
 returns-in_err-h-clause-result_value c =
-    let p = err_from_is_err_and c.from_residual-in_err-h.result c.from_residual-in_err-h.ensures.1 in
-    rw (p.1, p.2) (simp (sym c.in_ok-n.ensures, sym c.in_err-h.ensures))
+    rw (passed_on c.from_residual-in_err-h.result c.from_residual-in_err-h.ensures) (simp (sym c.in_ok-n.ensures, sym c.in_err-h.ensures))
 
 pub returns-in_err-capacity-clause-result_value : goal.returns-in_err-capacity-clause-result_value
 unfolding limits_reader
 returns-in_err-capacity-clause-result_value c =
-    let p = err_from_is_err_and c.from_residual-in_err-capacity.result c.from_residual-in_err-capacity.ensures.1 in
-    rw (p.1, p.2) (simp (sym c.in_ok-n.ensures, sym c.in_ok-h.ensures, ← c.most_capacity-most.ensures, ← c.least_capacity-least.ensures, sym c.in_err-capacity.ensures))
+    rw (passed_on c.from_residual-in_err-capacity.result c.from_residual-in_err-capacity.ensures) (simp (sym c.in_ok-n.ensures, sym c.in_ok-h.ensures, ← c.most_capacity-most.ensures, ← c.least_capacity-least.ensures, sym c.in_err-capacity.ensures))
 
 pub read_method-requires : goal.read_method-requires
 read_method-requires c = inside c.args.s.now 8 7 _ (sym c.in_ok-capacity.ensures)
@@ -48,6 +45,5 @@ returns-clause-result_value c =
 pub returns-in_err-method-clause-result_value : goal.returns-in_err-method-clause-result_value
 returns-in_err-method-clause-result_value c =
     let capacity = rw (c.least_capacity-least.ensures, c.most_capacity-most.ensures) at c.in_ok-capacity.ensures in
-    let p = err_from_is_err_and c.from_residual-in_err-method.result c.from_residual-in_err-method.ensures.1 in
-    rw (p.1, p.2) (sym (limits c.args.s.now c.args.version c.args.object c.in_ok-n.ensures c.in_ok-h.ensures capacity
+    rw (passed_on c.from_residual-in_err-method.result c.from_residual-in_err-method.ensures) (sym (limits c.args.s.now c.args.version c.args.object c.in_ok-n.ensures c.in_ok-h.ensures capacity
     ∙ after_refused _ (sym c.in_err-method.ensures.result_value)))

@@ -1,6 +1,6 @@
 -- Each return is one law of `request_reader` behind its code. Assumes nothing.
 use Rattle.std.proofs.Common.{ℕ, ◌<◌, length, sym, ◌∙◌, ap, arith}
-use Rattle.std.proofs.lemmas.Result.{err_from_is_err_and}
+use Rattle.refusal.proofs.Numbers.{passed_on}
 use Rattle.object.specs.Paper.{value_allowed}
 use Rattle.bench_file.specs.Layout.{request_reader}
 use Rattle.bench_file.proofs.Reading.{inside}
@@ -10,8 +10,7 @@ use Rattle.bench_file.proofs.read_request.Goals as goal
 pub returns-in_err-code-clause-result_value : goal.returns-in_err-code-clause-result_value
 unfolding request_reader
 returns-in_err-code-clause-result_value c =
-    let p = err_from_is_err_and c.from_residual.result c.from_residual.ensures.1 in
-    rw (p.1, p.2) (simp (← c.most_code-most.ensures, ← c.least_code-least.ensures, sym c.in_err-code.ensures))
+    rw (passed_on c.from_residual.result c.from_residual.ensures) (simp (← c.most_code-most.ensures, ← c.least_code-least.ensures, sym c.in_err-code.ensures))
 
 pub overflow_sub-s : goal.overflow_sub-s
 overflow_sub-s c = omega (arith, inside c.args.s.now c.args.at 9 _ (sym c.in_ok-code.ensures))

@@ -1,6 +1,6 @@
 -- A count, and then so many requests. Assumes nothing.
 use Rattle.std.proofs.Common.{◌+◌, length, drop, sym, ◌∙◌, arith}
-use Rattle.std.proofs.lemmas.Result.{err_from_is_err_and}
+use Rattle.refusal.proofs.Numbers.{passed_on}
 use Rattle.object.specs.Each.{sum_of}
 use Rattle.bench_file.specs.Reading.{several}
 use Rattle.bench_file.specs.Layout.{request_reader, row_reader}
@@ -25,5 +25,4 @@ returns-clause-result_value c =
 pub returns-in_err-count-clause-result_value : goal.returns-in_err-count-clause-result_value
 unfolding row_reader
 returns-in_err-count-clause-result_value c =
-    let p = err_from_is_err_and c.from_residual.result c.from_residual.ensures.1 in
-    rw (p.1, p.2) (simp (sym c.in_err-count.ensures))
+    rw (passed_on c.from_residual.result c.from_residual.ensures) (simp (sym c.in_err-count.ensures))
