@@ -1,6 +1,6 @@
 -- A version that is not known, a file's own refusal, or an accepted file. Assumes nothing.
 use Rattle.std.proofs.Common.{length, refl, sym, ◌∙◌, arith}
-use Rattle.std.proofs.lemmas.Result.{err_from_is_err_and}
+use Rattle.refusal.proofs.Numbers.{passed_on}
 use Rattle.bench_file.proofs.Each.{each_at}
 use Rattle.bench_writer.proofs.Converting.{unknown_version, own_refusal, own_head, converts}
 use Rattle.bench_writer.proofs.Filling.{fills, filled_as}
@@ -15,9 +15,8 @@ pub returns-in_err-judged : goal.returns-in_err-judged
 returns-in_err-judged c =
     let a = c.args in
     let p = each_at a.file.now (λ i. omega (arith, c.type_inv.file i)) in
-    let err = err_from_is_err_and c.from_residual.result c.from_residual.ensures.1 in
     let own = own_refusal a.file.now a.wanted (length a.out.now) (sym c.version_known.ensures ∙ c.if-not-version_known.false) c.in_err-judged.ensures.answer in
-    rw (err.1, err.2) (converts _ _ _ _ _ p (fills own refl refl refl))
+    rw (passed_on c.from_residual.result c.from_residual.ensures) (converts _ _ _ _ _ p (fills own refl refl refl))
 
 pub convert_head-requires : goal.convert_head-requires
 convert_head-requires c =

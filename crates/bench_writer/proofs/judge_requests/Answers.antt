@@ -1,7 +1,7 @@
 -- So many bytes as the counts ask, and then so many requests. Assumes nothing.
 use Rattle.std.proofs.Common.{ap, ◌∙◌, le-leb}
 use Rattle.std.proofs.lemmas.Bool.{lt-leb}
-use Rattle.std.proofs.lemmas.Result.{err_from_is_err_and}
+use Rattle.refusal.proofs.Numbers.{passed_on}
 use Rattle.object.specs.Each.{sum_of}
 use Rattle.bench_file.specs.Reading.{several}
 use Rattle.bench_file.specs.Layout.{request_reader}
@@ -30,6 +30,5 @@ pub returns-in_err-read_request_row-clause-numbers : goal.returns-in_err-read_re
 unfolding requests_reader
 returns-in_err-read_request_row-clause-numbers c =
     let a = c.args in
-    let p = err_from_is_err_and c.from_residual.result c.from_residual.ensures.1 in
-    rw (p.1, p.2) (simp (le-leb _ _ c.if-requests-count.false, le-leb _ _ c.if-count-requests.false)
+    rw (passed_on c.from_residual.result c.from_residual.ensures) (simp (le-leb _ _ c.if-requests-count.false, le-leb _ _ c.if-count-requests.false)
     (ap forgotten c.in_err-read_request_row.ensures.result_value ∙ forgotten_tallied (sum_of single) (several a.count (request_reader a.object) a.requests.now)))

@@ -1,6 +1,6 @@
 -- Refused, too short a buffer, or the whole file. Assumes nothing.
 use Rattle.std.proofs.Common.{◌≡◌, ◌+◌, [], length, refl, ◌∙◌, arith}
-use Rattle.std.proofs.lemmas.Result.{err_from_is_err_and}
+use Rattle.refusal.proofs.Numbers.{passed_on}
 use native.Mathlib.Nat.{zero-add}
 use Rattle.object.specs.Each.{Each}
 use Rattle.bench_file.specs.Reading.{read}
@@ -24,8 +24,7 @@ pub returns-in_err-judge : goal.returns-in_err-judge
 returns-in_err-judge c =
     let g = as_given c.args.given in
     let refused = forgotten_refused (given_reader g g.requests) c.in_err-judge.ensures.numbers in
-    let err = err_from_is_err_and c.from_residual.result c.from_residual.ensures.1 in
-    rw (err.1, err.2) (writes g _ _ _ (λ z. absurd (omega (arith, given_tabled g refused, z))) (write_refused g _ _ refused) refl refl refl)
+    rw (passed_on c.from_residual.result c.from_residual.ensures) (writes g _ _ _ (λ z. absurd (omega (arith, given_tabled g refused, z))) (write_refused g _ _ refused) refl refl refl)
 
 pub length-length-requires : goal.length-length-requires
 length-length-requires c =

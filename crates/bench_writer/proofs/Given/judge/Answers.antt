@@ -1,6 +1,6 @@
 -- The rules before a return are kept, and those that it stops at are not. Assumes nothing.
 use Rattle.std.proofs.Common.{length, sym, leb-true, arith}
-use Rattle.std.proofs.lemmas.Result.{err_from_is_err_and}
+use Rattle.refusal.proofs.Numbers.{passed_on}
 use Rattle.object.proofs.Within.{within_range}
 use Rattle.bench_writer.specs.Writer.{number_rules, count_rules, requests_reader, given_reader}
 use Rattle.bench_writer.proofs.Rules.{rules_kept}
@@ -11,15 +11,13 @@ pub returns-in_err-judge_numbers-clause-numbers : goal.returns-in_err-judge_numb
 unfolding given_reader
 returns-in_err-judge_numbers-clause-numbers c =
     let row = c.args.self.requests.now in
-    let p = err_from_is_err_and c.from_residual.result c.from_residual.ensures.1 in
-    rw (p.1, p.2) (simp (sym (c.in_err-judge_numbers.ensures row)))
+    rw (passed_on c.from_residual.result c.from_residual.ensures) (simp (sym (c.in_err-judge_numbers.ensures row)))
 
 pub returns-in_err-judge_counts-clause-numbers : goal.returns-in_err-judge_counts-clause-numbers
 unfolding given_reader
 returns-in_err-judge_counts-clause-numbers c =
     let row = c.args.self.requests.now in
-    let p = err_from_is_err_and c.from_residual-in_err-judge_counts.result c.from_residual-in_err-judge_counts.ensures.1 in
-    rw (p.1, p.2) (simp (sym (c.in_ok-judge_numbers.ensures row), sym (c.in_err-judge_counts.ensures row)))
+    rw (passed_on c.from_residual-in_err-judge_counts.result c.from_residual-in_err-judge_counts.ensures) (simp (sym (c.in_ok-judge_numbers.ensures row), sym (c.in_err-judge_counts.ensures row)))
 
 pub total_of-count-requires : goal.total_of-count-requires
 total_of-count-requires c =
@@ -34,8 +32,7 @@ unfolding given_reader
 returns-in_err-judge_requests-clause-numbers c =
     let row = c.args.self.requests.now in
     let asked = forgotten_refused (requests_reader c.kind_of.result c.total_of-count.result row row) c.in_err-judge_requests.ensures.numbers in
-    let p = err_from_is_err_and c.from_residual-in_err-judge_requests.result c.from_residual-in_err-judge_requests.ensures.1 in
-    rw (p.1, p.2) (simp (sym (c.in_ok-judge_numbers.ensures row), sym (c.in_ok-judge_counts.ensures row), ← c.kind_of.ensures, ← c.total_of-count.ensures.0, asked))
+    rw (passed_on c.from_residual-in_err-judge_requests.result c.from_residual-in_err-judge_requests.ensures) (simp (sym (c.in_ok-judge_numbers.ensures row), sym (c.in_ok-judge_counts.ensures row), ← c.kind_of.ensures, ← c.total_of-count.ensures.0, asked))
 
 -- behind requests that were read, the rules of the schedule come last
 pub returns-clause-numbers : goal.returns-clause-numbers
