@@ -10,7 +10,6 @@ use borrow.Author.Tests.{le-ltb}
 use Rattle.object.specs.Each.{sum_of}
 use Rattle.object.proofs.Choice.{by_test}
 use Rattle.object.proofs.Each.{each_map}
-use Rattle.bench_file.specs.declared.Judged.{Judged}
 use Rattle.bench_file.specs.Layout.{Fields, Judgement, accepted, refused_by, judge_of}
 use Rattle.bench_file.specs.Promise.{Judges}
 use Rattle.bench_file.specs.Bytes.{InRange}
@@ -47,7 +46,7 @@ pub by_refusal : {A : Type 0} (shown : Judgement → A) (refused : ℕ → A) �
 by_refusal shown refused own null (accepted f) some = by_test (clear_of f) (λ z. absurd (some (rw z))) (λ z. rw z (null f z))
 by_refusal shown refused own null (refused_by number) some = own number
 
-module _ {bytes records : List ℕ} {answer : RunAnswer} (runs : Runs bytes (replicate enough_for_records 0) records answer) {r : Judged} (judges : Judges bytes r) where
+module _ {bytes records : List ℕ} {answer : RunAnswer} (runs : Runs bytes (replicate enough_for_records 0) records answer) {r : _} (judges : Judges bytes r) where
   in_range : (f : Fields) → judge_of bytes ≡ accepted f → InRange f
   in_range f e = ((judges.exactly f).0 e).0
 

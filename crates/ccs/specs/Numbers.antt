@@ -1,5 +1,5 @@
 -- The services' answers as numbers: a refusal, 0 for none, beside the numbers that are lent to the function.
-use Rattle.std.specs.Prelude.{ℕ, ◌≡◌, List, [], ◌∷◌, get_or, replicate, take}
+use Rattle.std.specs.Prelude.{ℕ, ◌≡◌, List, [], ◌∷◌, get_or, replicate, take, Result, Ok, Err}
 use Rattle.object.specs.Paper.{kind_number}
 use Rattle.machine.specs.Methods.{method_number}
 use Rattle.bench_file.specs.declared.Judged.{Judged}
@@ -12,10 +12,11 @@ use Rattle.bench.specs.Run.{result_in}
 use Rattle.cells.specs.declared.Printed.{Printed}
 
 -- of a file that is accepted: version, object, n, h, capacity, method, requests in all, schedule entries
-abbrev pub judged_numbers : Judged → List ℕ
-judged_numbers (Judged.Accepted head requests entries) =
-    head.version ∷ kind_number head.object ∷ head.n ∷ head.h ∷ head.capacity ∷ method_number head.method ∷ requests ∷ entries ∷ []
-judged_numbers (Judged.Refused refusal) = replicate 8 0
+abbrev pub judged_numbers : Result Judged ℕ → List ℕ
+judged_numbers (Ok judged) =
+    let head = judged.head in
+    head.version ∷ kind_number head.object ∷ head.n ∷ head.h ∷ head.capacity ∷ method_number head.method ∷ judged.requests ∷ judged.entries ∷ []
+judged_numbers (Err refusal) = replicate 8 0
 
 -- what judging a file's bytes answers, and the numbers after it
 pub record JudgedIn (bytes numbers : List ℕ) (r : ℕ) : Type 0 where

@@ -2,6 +2,7 @@
 #![tactic(auto)]
 
 ghost use Rattle.std.specs.Prelude.{◌≡◌};
+ghost use Rattle.refusal.specs.Numbers.{by_number};
 ghost use Rattle.bench_file.specs.Promise.{judged_refusal};
 ghost use Rattle.bench_writer.specs.Writer.{given_by, as_written, WritesAs};
 ghost use Rattle.bench.specs.Promise.{Runs};
@@ -14,29 +15,25 @@ use bench_writer::Given;
 use refusal::Refusal;
 
 // A judgement's number, 0 for an accepted file.
-fn judged_refusal(judged: Judged) -> u8
-    ensures { result ≡ judged_refusal judged }
+fn judged_refusal(judged: Result<Judged, Refusal>) -> u8
+    ensures { result ≡ judged_refusal (by_number judged) }
 {
     match judged {
-        Judged::Accepted {
-            head: _,
-            requests: _,
-            entries: _,
-        } => 0,
-        Judged::Refused(refusal) => refusal,
+        Ok(_) => 0,
+        Err(refusal) => refusal.number(),
     }
 }
 
 // Version, object, n, h, capacity, method, requests in all and schedule entries of an accepted file; all 0 of a refused one.
-fn judged_numbers(judged: Judged) -> [usize; 8]
-    ensures { result ≡ judged_numbers judged }
+fn judged_numbers(judged: Result<Judged, Refusal>) -> [usize; 8]
+    ensures { result ≡ judged_numbers (by_number judged) }
 {
     match judged {
-        Judged::Accepted {
+        Ok(Judged {
             head,
             requests,
             entries,
-        } => {
+        }) => {
             let object = head.object;
             let number = object::kind_number(object);
             let method = head.method;
@@ -52,7 +49,7 @@ fn judged_numbers(judged: Judged) -> [usize; 8]
                 entries,
             ]
         }
-        Judged::Refused(_) => [0usize; 8],
+        Err(_) => [0usize; 8],
     }
 }
 

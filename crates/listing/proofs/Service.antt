@@ -4,8 +4,9 @@ use native.Mathlib.Omega.{arith}
 use mathlib.Core.Path.{◌≡◌, refl, sym, ap, ◌∙◌}
 use mathlib.Core.List.{List, ◌++◌}
 use lib.ListN.{length, take}
+use Rattle.std.specs.Prelude.{Ok, Err}
 use Rattle.bench_file.specs.declared.Head.{Head}
-use Rattle.bench_file.specs.declared.Judged.TheVariants as Judged
+use Rattle.bench_file.specs.declared.Judged.{Judged}
 use Rattle.bench_file.specs.Layout.{Judgement, judge_of}
 use Rattle.bench_file.specs.Promise.{judged_as}
 use Rattle.bench_file.proofs.Judging.{head_of, refused_number}
@@ -24,15 +25,15 @@ use Rattle.listing.specs.Promise.{enough_bytes, Lists}
 use Rattle.listing.proofs.Lengths.{listing_length}
 
 -- a run that is not refused, of a file with a head that the judge has told
-module _ {bytes records : List ℕ} {counts : Counts} (ran : Ran bytes records counts) {head : Head} {requests entries : ℕ} (is : Judged.Accepted head requests entries ≡ judged_as (judge_of bytes)) where
-  head_is : ran.fields.head ≡ head
+module _ {bytes records : List ℕ} {counts : Counts} (ran : Ran bytes records counts) {judged : Judged} (is : Ok judged ≡ judged_as (judge_of bytes)) where
+  head_is : ran.fields.head ≡ judged.head
   head_is = head_of ran.fields (is ∙ ap judged_as ran.judged)
 
-  pub one_digit : head.version < 10
+  pub one_digit : judged.head.version < 10
   one_digit = omega (arith, ap (λ (h : Head). h.version) head_is, ran.in_range.head.version)
 
   -- its words are the listing
-  run_listed : head_line head counts ++ numbered record_line 0 (records_laid counts.records records) ≡ listing_of (judge_of bytes)
+  run_listed : head_line judged.head counts ++ numbered record_line 0 (records_laid counts.records records) ≡ listing_of (judge_of bytes)
   unfolding listing_of
   run_listed = rw (ran.judged, ran.clear, ran.in_buffer, ← head_is, ran.counted)
 
@@ -44,12 +45,12 @@ refusal_listed j some = sym (by_refusal listing_of refusal_line (λ number. refl
 lists : (bytes : List ℕ) {words old new : List ℕ} {r : Printed} → words ≡ listing_of (judge_of bytes) → length words ≤ enough_bytes → Gives words old new r → Lists bytes old new r
 lists bytes e most g = record { gives = rw (← e) g; enough = λ room. ap (λ (a : Printed). a.refusal) (not_refused g (omega arith)); inside = inside g; untouched = untouched g }
 
-pub lists_run : (bytes records : List ℕ) (counts : Counts) {head : Head} {requests entries : ℕ} {old new : List ℕ} {r : Printed} → Ran bytes records counts
-    → Judged.Accepted head requests entries ≡ judged_as (judge_of bytes)
-    → Gives (head_line head counts ++ numbered record_line 0 (records_laid counts.records records)) old new r → Lists bytes old new r
-lists_run bytes records counts {head} ran is =
+pub lists_run : (bytes records : List ℕ) (counts : Counts) {judged : Judged} {old new : List ℕ} {r : Printed} → Ran bytes records counts
+    → Ok judged ≡ judged_as (judge_of bytes)
+    → Gives (head_line judged.head counts ++ numbered record_line 0 (records_laid counts.records records)) old new r → Lists bytes old new r
+lists_run bytes records counts {judged} ran is =
     lists bytes (run_listed ran is)
-    (listing_length head counts (records_laid counts.records records) (one_digit ran is) (omega (arith, laid_count counts.records records, ran.few)))
+    (listing_length judged.head counts (records_laid counts.records records) (one_digit ran is) (omega (arith, laid_count counts.records records, ran.few)))
 
 -- a run that is refused
 pub lists_null : (bytes : List ℕ) (number : ℕ) {old new : List ℕ} {r : Printed} → number ≡ (result_as (judge_of bytes)).refusal → (number ≡ 0 → ⊥)
@@ -57,11 +58,11 @@ pub lists_null : (bytes : List ℕ) (number : ℕ) {old new : List ℕ} {r : Pri
 lists_null bytes number is some = lists bytes (ap refusal_line is ∙ refusal_listed (judge_of bytes) (λ z. some (is ∙ z))) (omega (arith, refusal_length number))
 
 -- a file that is refused
-own_listed : (j : Judgement) {number : ℕ} → Judged.Refused number ≡ judged_as j → refusal_line number ≡ listing_of j
+own_listed : (j : Judgement) {number : ℕ} → Err number ≡ judged_as j → refusal_line number ≡ listing_of j
 unfolding listing_of
 own_listed j e = rw (refused_number j e)
 
-pub lists_refusal : (bytes : List ℕ) (number : ℕ) {old new : List ℕ} {r : Printed} → Judged.Refused number ≡ judged_as (judge_of bytes) → Gives (refusal_line number) old new r → Lists bytes old new r
+pub lists_refusal : (bytes : List ℕ) (number : ℕ) {old new : List ℕ} {r : Printed} → Err number ≡ judged_as (judge_of bytes) → Gives (refusal_line number) old new r → Lists bytes old new r
 lists_refusal bytes number e = lists bytes (own_listed (judge_of bytes) e) (omega (arith, refusal_length number))
 
 -- a buffer that is large enough holds the whole listing

@@ -12,7 +12,7 @@ ghost use Rattle.cells.specs.Promise.{Gives};
 ghost use Rattle.listing.specs.Listing.{kind_word, method_word, count_words, head_line, record_line};
 ghost use Rattle.listing.specs.Promise.{Lists};
 
-use bench_file::{Head, Judged};
+use bench_file::Head;
 use cells::{Cell, Printed, Word};
 use machine::Method;
 use object::Kind;
@@ -120,19 +120,15 @@ pub fn list(file: &[u8], out: &mut [u8]) -> Printed
     ensures { Lists file.now out.old out.new result }
 {
     match bench_file::judge(file) {
-        Judged::Accepted {
-            head,
-            requests: _,
-            entries: _,
-        } => {
+        Ok(judged) => {
             let mut records = [0u8; bench::ENOUGH_FOR_RECORDS];
             let answer = bench::run(file, &mut records);
             if answer.refusal != 0 {
                 return cells::give_refusal(answer.refusal, out);
             }
             let counts = answer.counts;
-            list_run(head, counts, &records, counts.records as usize, out)
+            list_run(judged.head, counts, &records, counts.records as usize, out)
         }
-        Judged::Refused(number) => cells::give_refusal(number, out),
+        Err(refusal) => cells::give_refusal(refusal.number(), out),
     }
 }

@@ -6,7 +6,6 @@ use mathlib.Core.Bool.{Bool, true, false, cond}
 use mathlib.Core.List.{List}
 use lib.ListN.{length, drop}
 use borrow.Author.Tests.{le-leb}
-use Rattle.bench_file.specs.declared.Judged.{Judged}
 use Rattle.bench_file.specs.Layout.{Fields, Judgement, accepted, refused_by, judge_of}
 use Rattle.bench_file.specs.Promise.{Judges}
 use Rattle.bench_file.specs.Bytes.{InRange}
@@ -36,7 +35,7 @@ clear_answer : (clear : Bool) (a : Printed) → (cond clear a (refused_as 14)).r
 clear_answer true a e = refl
 clear_answer false a e = absurd (omega (arith, e))
 
-module _ (bytes old : List ℕ) {judged : Judged} (judges : Judges bytes judged) where
+module _ (bytes old : List ℕ) {judged : _} (judges : Judges bytes judged) where
   in_range : (f : Fields) → judge_of bytes ≡ accepted f → InRange f
   in_range f e = ((judges.exactly f).0 e).0
 

@@ -44,10 +44,8 @@ pub(crate) fn judged(output: &mut Output, file: &[u8]) {
             let head = judged.head;
             byte(output, 0);
             output.spaced(head.version as u64);
-            let kind = head.object;
-            let object = object::kind_number(kind);
-            let method = head.method;
-            let by = machine::method_number(method);
+            let object = object::kind_number(head.object);
+            let by = machine::method_number(head.method);
             bytes(output, &[object, head.n, head.h, head.capacity, by]);
             output.spaced(judged.requests as u64);
             output.spaced(judged.entries as u64);

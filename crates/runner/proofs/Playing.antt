@@ -9,9 +9,9 @@ use lib.Seq.{take-length}
 use lib.Dec.{ltb}
 use borrow.Author.Tests.{lt-ltb, le-ltb}
 use Rattle.object.specs.Each.{Each, sum_of}
+use Rattle.std.specs.Prelude.{Ok, Err}
 use Rattle.bench_file.specs.Layout.{Judgement, accepted, refused_by, judge_of}
 use Rattle.bench_file.specs.Bytes.{Byte}
-use Rattle.bench_file.proofs.Numbered.{refused_tabled}
 use Rattle.bench_file.proofs.RoundTrip.{accepted_in_range}
 use Rattle.machine.specs.Sizes.{most_calls}
 use Rattle.loader.specs.declared.Loaded.{Loaded}
@@ -39,12 +39,13 @@ pub record Ready (bytes : List ℕ) (j : Judgement) (r : Loaded) : Type 0 where
   pub plays : (lent : ℕ) → played_in lent j ≡ cond (ltb lent (record_length * r.requests)) (unplayed 13) (played_of (fields_of j))
 
 module _ (bytes : List ℕ) (each : Each Byte bytes) {r : Loaded} where
-  by_judgement : (j : Judgement) → judge_of bytes ≡ j → r ≡ loaded_as j → r.refusal ≡ 0 → Ready bytes j r
-  by_judgement (accepted f) e loaded zero =
+  by_judgement : (j : Judgement) → judge_of bytes ≡ j → Ok r ≡ loaded_as j → Ready bytes j r
+  by_judgement (accepted f) e loaded =
       let fits = accepted_in_range bytes f each e in
       let last = schedule_last bytes f each e in
       let entries = part_rest bytes (length bytes - length f.schedule) ∙ last.1 in
-      rw loaded (record {
+      let is : r ≡ record { requests = sum_of length f.rows; entries = length f.schedule; state = start_of f } = cc in
+      rw is (record {
         requests = refl;
         few = requests_few f fits;
         entries = last.0;
@@ -52,15 +53,14 @@ module _ (bytes : List ℕ) (each : Each Byte bytes) {r : Loaded} where
         played = ap (played_from (start_of f)) entries;
         plays = λ lent. refl;
       })
-  by_judgement (refused_by number) e loaded zero =
-      absurd (omega (arith, zero, ap (λ (r : Loaded). r.refusal) loaded, refused_tabled bytes number e))
+  by_judgement (refused_by number) e loaded = let z : ◌≡◌ {A = ℕ} 0 1 = cc in absurd (omega arith)
 
-  pub ready : r ≡ loaded_as (judge_of bytes) → r.refusal ≡ 0 → Ready bytes (judge_of bytes) r
+  pub ready : Ok r ≡ loaded_as (judge_of bytes) → Ready bytes (judge_of bytes) r
   ready = by_judgement (judge_of bytes) refl
 
-pub refused_plays : (j : Judgement) (lent : ℕ) {r : Loaded} → r ≡ loaded_as j → (r.refusal ≡ 0 → ⊥) → unplayed r.refusal ≡ played_in lent j
-refused_plays (accepted f) lent loaded some = absurd (some (ap (λ (r : Loaded). r.refusal) loaded))
-refused_plays (refused_by number) lent loaded some = ap (λ (r : Loaded). unplayed r.refusal) loaded
+pub refused_plays : (j : Judgement) (lent : ℕ) {number : ℕ} → Err number ≡ loaded_as j → unplayed number ≡ played_in lent j
+refused_plays (accepted f) lent loaded = let z : ◌≡◌ {A = ℕ} 0 1 = cc in absurd (omega arith)
+refused_plays (refused_by other) lent {number} loaded = let is : number ≡ other = cc in ap unplayed is
 
 module _ {bytes : List ℕ} {r : Loaded} (now : Ready bytes (judge_of bytes) r) (lent : ℕ) where
   pub too_short : lent < record_length * r.requests → unplayed 13 ≡ played_in lent (judge_of bytes)

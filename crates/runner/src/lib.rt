@@ -175,10 +175,10 @@ fn from_start(schedule: &[u8], start: State) -> Played
 pub fn play(file: &[u8], lent: usize) -> Played
     ensures { result ≡ played_in lent (judge_of file.now) }
 {
-    let loaded = loader::load(file);
-    if loaded.refusal != 0 {
-        return unplayed(loaded.refusal);
-    }
+    let loaded = match loader::load(file) {
+        Ok(loaded) => loaded,
+        Err(refusal) => return unplayed(refusal.number()),
+    };
     if lent < kept::RECORD_LENGTH * loaded.requests {
         return unplayed(13);
     }

@@ -12,12 +12,12 @@ pub list_run-requires : goal.list_run-requires
 list_run-requires c =
     let ready = ran c.run-answer.ensures c.judge.ensures c.if-answer-ne0.false in
     let long : length c.run-answer.new.out ≡ enough_for_records = search rules in
-    (omega (arith, ready.few), ready.few, one_digit ready (sym c.in-Accepted.is ∙ c.judge.ensures.answer))
+    (omega (arith, ready.few), ready.few, one_digit ready c.in-Ok.ensures.answer)
 
 pub returns-else-answer-ne0 : goal.returns-else-answer-ne0
 returns-else-answer-ne0 c =
     let ready = ran c.run-answer.ensures c.judge.ensures c.if-answer-ne0.false in
-    lists_run _ _ _ ready (sym c.in-Accepted.is ∙ c.judge.ensures.answer) c.list_run.ensures
+    lists_run _ _ _ ready c.in-Ok.ensures.answer c.list_run.ensures
 
-pub returns-in-Refused : goal.returns-in-Refused
-returns-in-Refused c = lists_refusal _ _ (sym c.in-Refused.is ∙ c.judge.ensures.answer) c.give_refusal-in-Refused.ensures
+pub returns-in-Err : goal.returns-in-Err
+returns-in-Err c = lists_refusal _ _ (c.number.ensures ∙ c.in-Err.ensures.answer) c.give_refusal-in-Err.ensures
