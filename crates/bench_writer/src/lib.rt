@@ -199,6 +199,7 @@ fn put_head(out: &mut [u8], head: Head)
 }
 
 // The schedule's length, two bytes.
+#[tactic(auto, using(crate::proofs::Spelled::two_bytes))]
 fn put_length(out: &mut [u8], at: usize, entries: usize)
     requires { (entries ≤ 32768) × (at + 2 ≤ length out.old) }
     ensures { out.new ≡ pasted out.old at (low_first 2 entries) }
@@ -233,6 +234,7 @@ fn put_rows(out: &mut [u8], at: usize, counts: &[u8], requests: &[u8]) -> usize
 }
 
 // The whole file, from the buffer's first byte on.
+#[tactic(auto, using(crate::proofs::Laying::raw_length))]
 fn put_file(out: &mut [u8], given: Given)
     requires { let g = as_given given in (g.object ≤ 2) × (g.method ≤ 1) × (length g.schedule ≤ 32768) × (5 * total g.counts ≤ length g.requests) × (length (raw_bytes g) ≤ length out.old) }
     ensures { out.new ≡ pasted out.old 0 (raw_bytes (as_given given.entry)) }

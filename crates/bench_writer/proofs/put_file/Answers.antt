@@ -15,15 +15,6 @@ put_head-requires c =
     let version = ap (λ (head : Head). head_length head.version) c.head.ensures in
     omega (arith, raw_length (as_given c.args.given), version)
 
-pub put_rows-next-requires : goal.put_rows-next-requires
-put_rows-next-requires c = omega (arith, raw_length (as_given c.args.given), c.head_bytes-at.ensures, c.put_head.auto.out)
-
-pub put_length-requires : goal.put_length-requires
-put_length-requires c = omega (arith, raw_length (as_given c.args.given), c.head_bytes-at.ensures, c.put_head.auto.out, c.put_rows-next.auto.out)
-
-pub put-requires : goal.put-requires
-put-requires c = omega (arith, raw_length (as_given c.args.given), c.head_bytes-at.ensures, c.put_head.auto.out, c.put_rows-next.auto.out, c.put_length.auto.out)
-
 pub returns : goal.returns
 unfolding raw_bytes
 returns c =
