@@ -64,25 +64,24 @@ module _ (refusal : ℕ) (test : ℕ → Bool) where
   one_fails (suc there) (suc count) (b ∷ bs) h e =
       by_test (test b) (λ p. rw (p, one_fails there count bs (le_of_suc-le-suc h) (rw p at e))) (λ p. rw p)
 
--- of so many entries at a place, the first `there` are there, and `fine` says whether each of these is below n
-pub record Tested (n : ℕ) (s : List ℕ) (at count there : ℕ) (fine : Bool) : Type 0 where
-  pub least : there ≡ min (length s - at) count
-  pub found : fine ≡ every (λ thread. ltb thread n) (take there (drop at s))
+-- of so many entries, the first `there` are there, and `fine` says whether each of these is below n
+pub record Tested (n : ℕ) (s : List ℕ) (count there : ℕ) (fine : Bool) : Type 0 where
+  pub least : there ≡ min (length s) count
+  pub found : fine ≡ every (λ thread. ltb thread n) (take there s)
 
 -- which of the three outcomes the entries have
-module _ {n : ℕ} {s : List ℕ} {at count there : ℕ} {fine : Bool} (d : Tested n s at count there fine) where
-  pub entries_read : count ≤ there → fine ≡ true → read count (drop (at + count) s) ≡ tallied (sum_of single) (several count (entry_reader n) (drop at s))
+module _ {n : ℕ} {s : List ℕ} {count there : ℕ} {fine : Bool} (d : Tested n s count there fine) where
+  pub entries_read : count ≤ there → fine ≡ true → read count (drop count s) ≡ tallied (sum_of single) (several count (entry_reader n) s)
   entries_read h t =
-      let all : there ≡ count = omega arith in
-      let inside : count ≤ length (drop at s) = rw length-drop (omega arith) in
-      let pass : every (λ thread. ltb thread n) (take count (drop at s)) ≡ true = rw (← all) (sym d.found ∙ t) in
-      rw (all_pass 11 (λ thread. ltb thread n) count (drop at s) inside pass, single_length, length-take-le count (drop at s) inside, drop-drop)
+      let all : there ≡ count = omega (arith, d.least) in
+      let inside : count ≤ length s = omega (arith, d.least) in
+      let pass : every (λ thread. ltb thread n) (take count s) ≡ true = rw (← all) (sym d.found ∙ t) in
+      rw (all_pass 11 (λ thread. ltb thread n) count s inside pass, single_length, length-take-le count s inside)
 
-  pub entries_cut : there < count → fine ≡ true → refused 1 ≡ tallied (sum_of single) (several count (entry_reader n) (drop at s))
+  pub entries_cut : there < count → fine ≡ true → refused 1 ≡ tallied (sum_of single) (several count (entry_reader n) s)
   entries_cut h t =
-      let all : length (drop at s) ≡ there = rw length-drop (omega arith) in
-      let pass : every (λ thread. ltb thread n) (drop at s) ≡ true = rw (← take_all there (drop at s) (omega arith)) (sym d.found ∙ t) in
-      rw (cut_off 11 (λ thread. ltb thread n) count (drop at s) (omega arith) pass)
+      let pass : every (λ thread. ltb thread n) s ≡ true = rw (← take_all there s (omega (arith, d.least))) (sym d.found ∙ t) in
+      rw (cut_off 11 (λ thread. ltb thread n) count s (omega (arith, d.least)) pass)
 
-  pub entries_out : fine ≡ false → refused 11 ≡ tallied (sum_of single) (several count (entry_reader n) (drop at s))
-  entries_out t = rw (one_fails 11 (λ thread. ltb thread n) there count (drop at s) (omega arith) (sym d.found ∙ t))
+  pub entries_out : fine ≡ false → refused 11 ≡ tallied (sum_of single) (several count (entry_reader n) s)
+  entries_out t = rw (one_fails 11 (λ thread. ltb thread n) there count s (omega (arith, d.least)) (sym d.found ∙ t))

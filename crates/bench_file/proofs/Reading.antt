@@ -2,7 +2,7 @@
 use Prim.Native.Nat.{ℕ, zero, suc, ◌+◌, ◌*◌, ◌≤◌, ◌<◌}
 use native.Mathlib.Nat.{le_of_suc-le-suc, not-suc-le-zero}
 use native.Mathlib.Decide.{dec_le}
-use native.Mathlib.Numerals.{add-one, add-two}
+use native.Mathlib.Numerals.{add-one, add-two, add-three}
 use native.Mathlib.Omega.{arith}
 use mathlib.Core.Path.{◌≡◌, refl, sym, ◌∙◌}
 use mathlib.Core.Bool.{Bool, true, false, ◌&&◌}
@@ -11,6 +11,7 @@ use lib.ListN.{length, get_or, take, drop, drop_of_length-le, length-drop}
 use lib.Seq.{take-nil, drop-cons, drop-drop}
 use lib.Dec.{eqb}
 use borrow.Author.Tests.{eq-eqb, ne_eqb}
+use Rattle.std.specs.Int.{w16, w32, from_le_bytes}
 use Rattle.bench_file.specs.Layout.{is_mark}
 use Rattle.bench_file.specs.Cursor.{number_read}
 use Rattle.bench_file.specs.Reading.{Outcome, refused, read, Reader, after, rule, field, little_endian, byte, ruled_byte}
@@ -89,15 +90,15 @@ low_at [] (suc at) width = rw (take-nil width)
 low_at (b ∷ s) zero width = refl
 low_at (b ∷ s) (suc at) width = low_at s at width
 
--- the numbers of two and of four bytes
+-- the numbers of two and of four bytes, as std reads them
 module _ (s : List ℕ) (at : ℕ) where
-  pub two_at : little_endian (take 2 (drop at s)) ≡ get_or s at 0 + 256 * get_or s (at + 1) 0
+  pub two_at : from_le_bytes w16 (get_or s at 0 ∷ get_or s (at + 1) 0 ∷ []) ≡ little_endian (take 2 (drop at s))
   unfolding little_endian
   two_at = rw add-one (omega (arith, low_at s at 1, low_at s (suc at) 0))
 
-  pub four_at : little_endian (take 4 (drop at s)) ≡ little_endian (take 2 (drop at s)) + 65536 * little_endian (take 2 (drop (at + 2) s))
+  pub four_at : from_le_bytes w32 (get_or s at 0 ∷ get_or s (at + 1) 0 ∷ get_or s (at + 2) 0 ∷ get_or s (at + 3) 0 ∷ []) ≡ little_endian (take 4 (drop at s))
   unfolding little_endian
-  four_at = rw add-two (omega (arith, low_at s at 3, low_at s (suc at) 2, low_at s at 1, low_at s (suc at) 0))
+  four_at = rw (add-one, add-two, add-three) (omega (arith, low_at s at 3, low_at s (suc at) 2, low_at s (suc (suc at)) 1, low_at s (suc (suc (suc at))) 0))
 
 pub mark_at : (s : List ℕ) → is_mark (take 3 s) ≡ (eqb (get_or s 0 0) 0x43 && eqb (get_or s 1 0) 0x43 && eqb (get_or s 2 0) 0x53)
 mark_at [] = refl

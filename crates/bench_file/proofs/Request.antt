@@ -1,4 +1,4 @@
--- A request at a place, behind a code that its object knows: laws of `request_reader`. Assumes nothing.
+-- A request, behind a code that its object knows: laws of `request_reader`. Assumes nothing.
 use Prim.Native.Nat.{ℕ, ◌+◌, ◌≤◌, ◌<◌}
 use native.Mathlib.Nat.{add_assoc}
 use native.Mathlib.Omega.{arith}
@@ -12,16 +12,16 @@ use Rattle.bench_file.specs.Reading.{refused, read, little_endian, ranged}
 use Rattle.bench_file.specs.Layout.{request_reader}
 use Rattle.bench_file.proofs.Reading.{field_at, field_cut_at}
 
-module _ (s : List ℕ) (at : ℕ) (object : Kind) {code : ℕ} (e : ranged 9 (least_code object) (most_code object) (drop at s) ≡ read code (drop (at + 1) s)) where
-  pub request_cut : at < length s → length s < at + 5 → request_reader object (drop at s) ≡ refused 1
+module _ (s : List ℕ) (object : Kind) {code : ℕ} (e : ranged 9 (least_code object) (most_code object) s ≡ read code (drop 1 s)) where
+  pub request_cut : 0 < length s → length s < 5 → request_reader object s ≡ refused 1
   unfolding request_reader
-  request_cut g h = simp (e, field_cut_at s (at + 1) 4 (omega arith) (omega arith))
+  request_cut g h = simp (e, field_cut_at s 1 4 (omega arith) (omega arith))
 
-  pub request_allowed : at + 5 ≤ length s → value_allowed code (little_endian (take 4 (drop (at + 1) s))) ≡ true
-      → request_reader object (drop at s) ≡ read (request_of code (little_endian (take 4 (drop (at + 1) s)))) (drop (at + 5) s)
+  pub request_allowed : 5 ≤ length s → value_allowed code (little_endian (take 4 (drop 1 s))) ≡ true
+      → request_reader object s ≡ read (request_of code (little_endian (take 4 (drop 1 s)))) (drop 5 s)
   unfolding request_reader
-  request_allowed h v = simp (e, field_at s (at + 1) 4 (omega arith), v, add_assoc)
+  request_allowed h v = simp (e, field_at s 1 4 (omega arith), v)
 
-  pub request_denied : at + 5 ≤ length s → value_allowed code (little_endian (take 4 (drop (at + 1) s))) ≡ false → request_reader object (drop at s) ≡ refused 9
+  pub request_denied : 5 ≤ length s → value_allowed code (little_endian (take 4 (drop 1 s))) ≡ false → request_reader object s ≡ refused 9
   unfolding request_reader
-  request_denied h v = simp (e, field_at s (at + 1) 4 (omega arith), v)
+  request_denied h v = simp (e, field_at s 1 4 (omega arith), v)

@@ -1,5 +1,5 @@
 -- What the code's answers mean as outcomes of a reader: a place in the file stands for the bytes from there on.
-use Rattle.std.specs.Prelude.{ℕ, ◌+◌, ◌≤◌, cond, List, [], ◌∷◌, length, drop, eqb, Result, Ok, Err}
+use Rattle.std.specs.Prelude.{ℕ, ◌+◌, ◌≤◌, cond, List, [], ◌∷◌, length, drop, eqb, Result, Ok, Err, IfOk}
 use Rattle.refusal.specs.declared.Refusal.{Refusal}
 use Rattle.refusal.specs.Numbers.{number}
 use Rattle.bench_file.specs.declared.Head.{Head}
@@ -37,35 +37,28 @@ abbrev pub method_read : List ℕ → ℕ → Result Method Refusal → Outcome 
 method_read bytes version (Ok method) = read method (drop (head_length version) bytes)
 method_read bytes version (Err refusal) = refused (number refusal)
 
--- a method that was read lies within the bytes
-abbrev pub MethodInside : List ℕ → ℕ → Result Method Refusal → Type 0
-MethodInside bytes version (Ok method) = head_length version ≤ length bytes
-MethodInside bytes version (Err refusal) = Unit
-
 -- the head, or its refusal
 abbrev pub head_read : List ℕ → Result Head Refusal → Outcome Head
 head_read bytes (Ok head) = read head (drop (head_length head.version) bytes)
 head_read bytes (Err refusal) = refused (number refusal)
-
--- a head that was read lies within the bytes
-abbrev pub HeadInside : List ℕ → Result Head Refusal → Type 0
-HeadInside bytes (Ok head) = head_length head.version ≤ length bytes
-HeadInside bytes (Err refusal) = Unit
 
 -- how many requests or entries were read, and the place behind them
 abbrev pub reached : List ℕ → Result Reached Refusal → Outcome ℕ
 reached bytes (Ok place) = read place.count (drop place.next bytes)
 reached bytes (Err refusal) = refused (number refusal)
 
--- a place that was reached lies within the bytes, and each thing counted took a byte or more
-abbrev pub Ahead : List ℕ → ℕ → Result Reached Refusal → Type 0
-Ahead bytes at (Ok place) = (at + place.count ≤ place.next) × (place.next ≤ length bytes)
-Ahead bytes at (Err refusal) = Unit
+-- what was read lies within the bytes, and each thing counted took a byte or more
+abbrev pub Ahead : List ℕ → Result Reached Refusal → Type 0
+Ahead bytes r = IfOk r (λ place. (place.count ≤ place.next) × (place.next ≤ length bytes))
 
 -- an outcome of which only a number is kept
 abbrev pub tallied : {A : Type 0} → (A → ℕ) → Outcome A → Outcome ℕ
 tallied tally (refused refusal) = refused refusal
 tallied tally (read a rest) = read (tally a) rest
+
+-- a tally of its own
+abbrev pub same : ℕ → ℕ
+same n = n
 
 -- each counts 1
 abbrev pub single : {A : Type 0} → A → ℕ

@@ -1,13 +1,13 @@
 // Bench files of version 1 and 2, judged front to back.
 #![tactic(auto)]
 
-ghost use Rattle.std.specs.Prelude.{◌≡◌, ◌+◌, ◌≤◌, ◌<◌, length, take, drop, ltb};
+ghost use Rattle.std.specs.Prelude.{◌≡◌, ◌≤◌, ◌<◌, ℕ, length, take, drop, ltb, IfOk, OnOk};
 ghost use Rattle.refusal.specs.Numbers.{number, by_number};
 ghost use Rattle.object.specs.Each.{every, sum_of};
-ghost use Rattle.bench_file.specs.Reading.{little_endian, ranged, several};
+ghost use Rattle.bench_file.specs.Reading.{Reader, ranged, several};
 ghost use Rattle.bench_file.specs.Layout.{version_known, head_length, is_mark, start_reader, method_reader, limits_reader, head_reader, request_reader, row_reader, entry_reader, schedule_reader};
 ghost use Rattle.bench_file.specs.Promise.{Judges};
-ghost use Rattle.bench_file.specs.Cursor.{byte_read, start_read, method_read, MethodInside, head_read, HeadInside, reached, Ahead, tallied, single, schedule_as, rows_as};
+ghost use Rattle.bench_file.specs.Cursor.{byte_read, start_read, method_read, head_read, reached, Ahead, tallied, same, single, schedule_as, rows_as};
 
 use machine::Method;
 use object::Kind;
@@ -61,7 +61,8 @@ pub fn version_known(version: u16) -> bool
 
 // The field of one byte at a place: 1 where it is cut off, the given refusal where it is outside its range.
 fn byte_in(s: &[u8], at: usize, refusal: Refusal, least: u8, most: u8) -> Result<u8, Refusal>
-    ensures { byte_read s.now at result ≡ ranged (number refusal) least most (drop at s.now) }
+    ensures result_value { byte_read s.now at result ≡ ranged (number refusal) least most (drop at s.now) }
+    ensures inside { OnOk result (at < length s.now) }
 {
     if s.len() <= at {
         return Err(Refusal::CutOff);
@@ -73,41 +74,12 @@ fn byte_in(s: &[u8], at: usize, refusal: Refusal, least: u8, most: u8) -> Result
     Err(refusal)
 }
 
-// A byte as a wider number.
-fn wide(x: u8) -> u32
-    ensures { (result ≡ x) × (result < 256) }
-{
-    x as u32
-}
-
-// The number of two bytes at a place.
-fn number2(s: &[u8], at: usize) -> u32
-    requires { at + 2 ≤ length s.now }
-    ensures { (result ≡ little_endian (take 2 (drop at s.now))) × (result < 65536) }
-{
-    wide(s[at]) + 256 * wide(s[at + 1])
-}
-
-// The number of four bytes at a place.
-fn number4(s: &[u8], at: usize) -> u32
-    requires { at + 4 ≤ length s.now }
-    ensures { result ≡ little_endian (take 4 (drop at s.now)) }
-{
-    number2(s, at) + 65536 * number2(s, at + 2)
-}
-
 // Whether the first three bytes are the mark.
 fn is_mark(s: &[u8]) -> bool
     requires { 3 ≤ length s.now }
     ensures { result ≡ is_mark (take 3 s.now) }
 {
-    if s[0] != 0x43 {
-        return false;
-    }
-    if s[1] != 0x43 {
-        return false;
-    }
-    s[2] == 0x53
+    s.starts_with(b"CCS")
 }
 
 // The mark's bytes.
@@ -126,7 +98,7 @@ fn read_start(s: &[u8]) -> Result<u16, Refusal>
     if s.len() < 5 {
         return Err(Refusal::CutOff);
     }
-    let version = number2(s, 3) as u16;
+    let version = u16::from_le_bytes([s[3], s[4]]);
     if version_known(version) {
         return Ok(version);
     }
@@ -137,7 +109,7 @@ fn read_start(s: &[u8]) -> Result<u16, Refusal>
 fn read_method(s: &[u8], version: u16) -> Result<Method, Refusal>
     requires { 9 ≤ length s.now }
     ensures result_value { method_read s.now version result ≡ method_reader version (drop 9 s.now) }
-    ensures method_inside { MethodInside s.now version result }
+    ensures method_inside { OnOk result (head_length version ≤ length s.now) }
 {
     if version == 1 {
         return Ok(Method::CcSynch);
@@ -149,7 +121,7 @@ fn read_method(s: &[u8], version: u16) -> Result<Method, Refusal>
 // From byte 6 on: n, h, the capacity and the method, behind an object byte that is in range.
 fn read_limits(s: &[u8], version: u16, object: Kind) -> Result<Head, Refusal>
     ensures result_value { head_read s.now result ≡ limits_reader version object (drop 6 s.now) }
-    ensures head_inside { HeadInside s.now result }
+    ensures head_inside { IfOk result (λ head. head_length head.version ≤ length s.now) }
 {
     let n = byte_in(s, 6, Refusal::Threads, 1, 16)?;
     let h = byte_in(s, 7, Refusal::Bound, 1, 255)?;
@@ -170,7 +142,7 @@ fn read_limits(s: &[u8], version: u16, object: Kind) -> Result<Head, Refusal>
 // All bytes before the rows.
 fn read_head(s: &[u8]) -> Result<Head, Refusal>
     ensures result_value { head_read s.now result ≡ head_reader s.now }
-    ensures head_inside { HeadInside s.now result }
+    ensures head_inside { IfOk result (λ head. head_length head.version ≤ length s.now) }
 {
     let version = read_start(s)?;
     let b = byte_in(s, 5, Refusal::Object, 0, 2)?;
@@ -178,40 +150,36 @@ fn read_head(s: &[u8]) -> Result<Head, Refusal>
 }
 
 // A request: code and value.
-fn read_request(s: &[u8], at: usize, object: Kind) -> Result<Reached, Refusal>
-    ensures result_value { reached s.now result ≡ tallied single (request_reader object (drop at s.now)) }
-    ensures ahead { Ahead s.now at result }
+fn read_request(s: &[u8], object: Kind) -> Result<Reached, Refusal>
+    ensures result_value { reached s.now result ≡ tallied single (request_reader object s.now) }
+    ensures ahead { Ahead s.now result }
 {
     let least = object::least_code(object);
     let most = object::most_code(object);
-    let code = byte_in(s, at, Refusal::Request, least, most)?;
-    if s.len() - at < 5 {
+    let code = byte_in(s, 0, Refusal::Request, least, most)?;
+    if s.len() < 5 {
         return Err(Refusal::CutOff);
     }
-    let value = number4(s, at + 1);
+    let value = u32::from_le_bytes([s[1], s[2], s[3], s[4]]);
     if object::value_allowed(code, value) {
-        return Ok(Reached {
-            next: at + 5,
-            count: 1,
-        });
+        return Ok(Reached { next: 5, count: 1 });
     }
     Err(Refusal::Request)
 }
 
-// So many requests.
-fn read_requests(s: &[u8], at: usize, object: Kind, count: usize) -> Result<Reached, Refusal>
-    requires { at ≤ length s.now }
-    ensures result_value { reached s.now result ≡ tallied (sum_of single) (several count (request_reader object) (drop at s.now)) }
-    ensures ahead { Ahead s.now at result }
+// So many of a kind, one after the other.
+fn read_several<F: Fn(&[u8]) -> Result<Reached, Refusal>>(s: &[u8], count: usize, read: F) -> Result<Reached, Refusal>
+    requires callable { F.IsAlwaysCallable read }
+    requires goes_ahead { (part : _) (r : _) → F.post read part r → Ahead part.now r }
+    ensures result_value { (reader : Reader ℕ) → ((part : _) (r : _) → F.post read part r → reached part.now r ≡ reader part.now) → reached s.now result ≡ tallied (sum_of same) (several count reader s.now) }
+    ensures ahead { Ahead s.now result }
 {
-    let mut next = at;
-    let mut done = 0usize;
-    let mut i = 0usize;
-    while i < count {
-        let more = read_request(s, next, object)?;
-        next = more.next;
+    let mut next = 0;
+    let mut done = 0;
+    for _ in 0..count {
+        let more = read(&s[next..])?;
+        next += more.next;
         done += more.count;
-        i += 1;
     }
     Ok(Reached { next, count: done })
 }
@@ -219,36 +187,30 @@ fn read_requests(s: &[u8], at: usize, object: Kind, count: usize) -> Result<Reac
 // A row of so many requests, from its first byte on.
 pub fn read_request_row(row: &[u8], object: Kind, count: usize) -> Result<Reached, Refusal>
     ensures result_value { reached row.now result ≡ tallied (sum_of single) (several count (request_reader object) row.now) }
-    ensures ahead { Ahead row.now 0 result }
+    ensures ahead { Ahead row.now result }
 {
-    read_requests(row, 0, object, count)
+    read_several(row, count, |s| read_request(s, object))
 }
 
 // A thread's count and its requests.
-fn read_row(s: &[u8], at: usize, object: Kind) -> Result<Reached, Refusal>
-    ensures result_value { reached s.now result ≡ tallied length (row_reader object (drop at s.now)) }
-    ensures ahead { Ahead s.now at result }
+fn read_row(s: &[u8], object: Kind) -> Result<Reached, Refusal>
+    ensures result_value { reached s.now result ≡ tallied length (row_reader object s.now) }
+    ensures ahead { Ahead s.now result }
 {
-    let count = byte_in(s, at, Refusal::Count, 0, 16)?;
-    read_requests(s, at + 1, object, count as usize)
+    let count = byte_in(s, 0, Refusal::Count, 0, 16)?;
+    let requests = read_request_row(&s[1..], object, count as usize)?;
+    Ok(Reached {
+        next: 1 + requests.next,
+        ..requests
+    })
 }
 
 // The rows of n threads.
-fn read_rows(s: &[u8], at: usize, object: Kind, n: u8) -> Result<Reached, Refusal>
-    requires { at ≤ length s.now }
-    ensures result_value { reached s.now result ≡ tallied (sum_of length) (several n (row_reader object) (drop at s.now)) }
-    ensures ahead { Ahead s.now at result }
+fn read_rows(s: &[u8], object: Kind, n: u8) -> Result<Reached, Refusal>
+    ensures result_value { reached s.now result ≡ tallied (sum_of length) (several n (row_reader object) s.now) }
+    ensures ahead { Ahead s.now result }
 {
-    let mut next = at;
-    let mut done = 0usize;
-    let mut i = 0u8;
-    while i < n {
-        let more = read_row(s, next, object)?;
-        next = more.next;
-        done += more.count;
-        i += 1;
-    }
-    Ok(Reached { next, count: done })
+    read_several(s, n as usize, |s| read_row(s, object))
 }
 
 // Whether every byte of a row, of entries or of counts, is below a bound. The loop has no early exit, so that many bytes are compared at once.
@@ -265,49 +227,44 @@ pub fn every_below(row: &[u8], bound: u8) -> bool
 }
 
 // So many entries. Those that are there are judged first: one that is not below n comes before the end that cuts off a later one.
-fn read_entries(s: &[u8], at: usize, n: u8, count: usize) -> Result<Reached, Refusal>
-    requires { at ≤ length s.now }
-    ensures result_value { reached s.now result ≡ tallied (sum_of single) (several count (entry_reader n) (drop at s.now)) }
-    ensures ahead { Ahead s.now at result }
+fn read_entries(s: &[u8], n: u8, count: usize) -> Result<Reached, Refusal>
+    ensures result_value { reached s.now result ≡ tallied (sum_of single) (several count (entry_reader n) s.now) }
+    ensures ahead { Ahead s.now result }
 {
-    let mut there = s.len() - at;
-    if count < there {
-        there = count;
+    let there = s.len().min(count);
+    if !every_below(&s[..there], n) {
+        return Err(Refusal::Entry);
     }
-    if every_below(&s[at..at + there], n) {
-        if there < count {
-            return Err(Refusal::CutOff);
-        }
-        return Ok(Reached {
-            next: at + count,
-            count,
-        });
+    if there < count {
+        return Err(Refusal::CutOff);
     }
-    Err(Refusal::Entry)
+    Ok(Reached { next: count, count })
 }
 
 // The schedule's length and its entries.
-fn read_schedule(s: &[u8], at: usize, n: u8) -> Result<Reached, Refusal>
-    requires { at ≤ length s.now }
-    ensures result_value { reached s.now result ≡ tallied length (schedule_reader n (drop at s.now)) }
-    ensures ahead { Ahead s.now at result }
+fn read_schedule(s: &[u8], n: u8) -> Result<Reached, Refusal>
+    ensures result_value { reached s.now result ≡ tallied length (schedule_reader n s.now) }
+    ensures ahead { Ahead s.now result }
 {
-    if s.len() - at < 2 {
+    if s.len() < 2 {
         return Err(Refusal::CutOff);
     }
-    let entries = number2(s, at);
-    if 32768 < entries {
+    let count = u16::from_le_bytes([s[0], s[1]]);
+    if 32768 < count {
         return Err(Refusal::ScheduleLength);
     }
-    read_entries(s, at + 2, n, entries as usize)
+    let entries = read_entries(&s[2..], n, count as usize)?;
+    Ok(Reached {
+        next: 2 + entries.next,
+        ..entries
+    })
 }
 
 // From the schedule on, with the requests counted.
-fn judge_schedule(s: &[u8], at: usize, head: Head, requests: usize) -> Result<Judged, Refusal>
-    requires { at ≤ length s.now }
-    ensures { by_number result ≡ schedule_as head requests (tallied length (schedule_reader head.n (drop at s.now))) }
+fn judge_schedule(s: &[u8], head: Head, requests: usize) -> Result<Judged, Refusal>
+    ensures { by_number result ≡ schedule_as head requests (tallied length (schedule_reader head.n s.now)) }
 {
-    let schedule = read_schedule(s, at, head.n)?;
+    let schedule = read_schedule(s, head.n)?;
     if schedule.next < s.len() {
         return Err(Refusal::Trailing);
     }
@@ -320,11 +277,10 @@ fn judge_schedule(s: &[u8], at: usize, head: Head, requests: usize) -> Result<Ju
 
 // From the rows on.
 fn judge_rows(s: &[u8], head: Head) -> Result<Judged, Refusal>
-    requires { head_length head.version ≤ length s.now }
-    ensures { by_number result ≡ rows_as head (tallied (sum_of length) (several head.n (row_reader head.object) (drop (head_length head.version) s.now))) }
+    ensures { by_number result ≡ rows_as head (tallied (sum_of length) (several head.n (row_reader head.object) s.now)) }
 {
-    let rows = read_rows(s, head_bytes(head.version), head.object, head.n)?;
-    judge_schedule(s, rows.next, head, rows.count)
+    let rows = read_rows(s, head.object, head.n)?;
+    judge_schedule(&s[rows.next..], head, rows.count)
 }
 
 // Judges any bytes as a bench file, front to back.
@@ -332,5 +288,5 @@ pub fn judge(file: &[u8]) -> Result<Judged, Refusal>
     ensures { Judges file.now (by_number result) }
 {
     let head = read_head(file)?;
-    judge_rows(file, head)
+    judge_rows(&file[head_bytes(head.version)..], head)
 }

@@ -5,17 +5,17 @@ use Rattle.object.specs.Paper.{within}
 use Rattle.bench_file.proofs.Reading.{ruled_cut, ruled_is, ruled_out}
 use Rattle.bench_file.proofs.byte_in.Goals as goal
 
-pub returns-then-s-at : goal.returns-then-s-at
-returns-then-s-at c =
+pub returns-then-s-at-clause-result_value : goal.returns-then-s-at-clause-result_value
+returns-then-s-at-clause-result_value c =
     let a = c.args in
     sym (ruled_cut a.s.now a.at (number a.refusal) (λ b. within a.least b a.most) c.if-s-at.true)
 
-pub returns-then-between : goal.returns-then-between
-returns-then-between c =
+pub returns-then-between-clause-result_value : goal.returns-then-between-clause-result_value
+returns-then-between-clause-result_value c =
     let a = c.args in
     sym (ruled_is a.s.now a.at (number a.refusal) (λ b. within a.least b a.most) c.if-s-at.false (sym c.between.ensures ∙ c.if-between.true))
 
-pub returns : goal.returns
-returns c =
+pub returns-clause-result_value : goal.returns-clause-result_value
+returns-clause-result_value c =
     let a = c.args in
     sym (ruled_out a.s.now a.at (number a.refusal) (λ b. within a.least b a.most) c.if-s-at.false (sym c.between.ensures ∙ c.if-between.false))

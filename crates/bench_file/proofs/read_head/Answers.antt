@@ -12,10 +12,10 @@ returns-in_err-version-clause-result_value c =
 pub returns-in_err-b-clause-result_value : goal.returns-in_err-b-clause-result_value
 unfolding head_reader
 returns-in_err-b-clause-result_value c =
-    rw (passed_on c.from_residual-in_err-b.result c.from_residual-in_err-b.ensures) (simp (sym c.in_ok-version.ensures, sym c.in_err-b.ensures))
+    rw (passed_on c.from_residual-in_err-b.result c.from_residual-in_err-b.ensures) (simp (sym c.in_ok-version.ensures, sym c.in_err-b.ensures.result_value))
 
 pub returns-clause-result_value : goal.returns-clause-result_value
 unfolding head_reader
 returns-clause-result_value c =
     c.read_limits.ensures.result_value
-    ∙ simp (sym c.in_ok-version.ensures, sym c.in_ok-b.ensures, ← c.kind_of.ensures)
+    ∙ simp (sym c.in_ok-version.ensures, sym c.in_ok-b.ensures.result_value, ← c.kind_of.ensures)

@@ -21,29 +21,26 @@ limits s version object e f g = simp (sym e, sym f, sym g)
 pub returns-in_err-n-clause-result_value : goal.returns-in_err-n-clause-result_value
 unfolding limits_reader
 returns-in_err-n-clause-result_value c =
-    rw (passed_on c.from_residual.result c.from_residual.ensures) (simp (sym c.in_err-n.ensures))
+    rw (passed_on c.from_residual.result c.from_residual.ensures) (simp (sym c.in_err-n.ensures.result_value))
 
 pub returns-in_err-h-clause-result_value : goal.returns-in_err-h-clause-result_value
 unfolding limits_reader
 returns-in_err-h-clause-result_value c =
-    rw (passed_on c.from_residual-in_err-h.result c.from_residual-in_err-h.ensures) (simp (sym c.in_ok-n.ensures, sym c.in_err-h.ensures))
+    rw (passed_on c.from_residual-in_err-h.result c.from_residual-in_err-h.ensures) (simp (sym c.in_ok-n.ensures.result_value, sym c.in_err-h.ensures.result_value))
 
 pub returns-in_err-capacity-clause-result_value : goal.returns-in_err-capacity-clause-result_value
 unfolding limits_reader
 returns-in_err-capacity-clause-result_value c =
-    rw (passed_on c.from_residual-in_err-capacity.result c.from_residual-in_err-capacity.ensures) (simp (sym c.in_ok-n.ensures, sym c.in_ok-h.ensures, ← c.most_capacity-most.ensures, ← c.least_capacity-least.ensures, sym c.in_err-capacity.ensures))
-
-pub read_method-requires : goal.read_method-requires
-read_method-requires c = inside c.args.s.now 8 7 _ (sym c.in_ok-capacity.ensures)
+    rw (passed_on c.from_residual-in_err-capacity.result c.from_residual-in_err-capacity.ensures) (simp (sym c.in_ok-n.ensures.result_value, sym c.in_ok-h.ensures.result_value, ← c.most_capacity-most.ensures, ← c.least_capacity-least.ensures, sym c.in_err-capacity.ensures.result_value))
 
 pub returns-clause-result_value : goal.returns-clause-result_value
 returns-clause-result_value c =
-    let capacity = rw (c.least_capacity-least.ensures, c.most_capacity-most.ensures) at c.in_ok-capacity.ensures in
-    sym (limits c.args.s.now c.args.version c.args.object c.in_ok-n.ensures c.in_ok-h.ensures capacity
+    let capacity = rw (c.least_capacity-least.ensures, c.most_capacity-most.ensures) at c.in_ok-capacity.ensures.result_value in
+    sym (limits c.args.s.now c.args.version c.args.object c.in_ok-n.ensures.result_value c.in_ok-h.ensures.result_value capacity
     ∙ after_read_lem _ (sym c.in_ok-method.ensures.result_value))
 
 pub returns-in_err-method-clause-result_value : goal.returns-in_err-method-clause-result_value
 returns-in_err-method-clause-result_value c =
-    let capacity = rw (c.least_capacity-least.ensures, c.most_capacity-most.ensures) at c.in_ok-capacity.ensures in
-    rw (passed_on c.from_residual-in_err-method.result c.from_residual-in_err-method.ensures) (sym (limits c.args.s.now c.args.version c.args.object c.in_ok-n.ensures c.in_ok-h.ensures capacity
+    let capacity = rw (c.least_capacity-least.ensures, c.most_capacity-most.ensures) at c.in_ok-capacity.ensures.result_value in
+    rw (passed_on c.from_residual-in_err-method.result c.from_residual-in_err-method.ensures) (sym (limits c.args.s.now c.args.version c.args.object c.in_ok-n.ensures.result_value c.in_ok-h.ensures.result_value capacity
     ∙ after_refused _ (sym c.in_err-method.ensures.result_value)))

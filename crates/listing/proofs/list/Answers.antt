@@ -1,5 +1,5 @@
 -- The refusal of a file, of its run, or the run. Assumes nothing.
-use Rattle.std.proofs.Common.{◌≡◌, length, sym, ◌∙◌, arith, rules}
+use Rattle.std.proofs.Common.{◌≡◌, length, ap, ◌∙◌, arith, rules, Err}
 use Rattle.bench.proofs.Enough.{ran, refusal_is}
 use Rattle.bench.specs.Run.{enough_for_records}
 use Rattle.listing.proofs.Service.{one_digit, lists_run, lists_null, lists_refusal}
@@ -20,4 +20,4 @@ returns-else-answer-ne0 c =
     lists_run _ _ _ ready c.in-Ok.ensures.answer c.list_run.ensures
 
 pub returns-in-Err : goal.returns-in-Err
-returns-in-Err c = lists_refusal _ _ (c.number.ensures ∙ c.in-Err.ensures.answer) c.give_refusal-in-Err.ensures
+returns-in-Err c = lists_refusal _ _ (ap Err c.number.ensures ∙ c.in-Err.ensures.answer) c.give_refusal-in-Err.ensures
