@@ -65,10 +65,10 @@ fn judge_counts(n: u8, counts: &[u8]) -> Result<(), Refusal>
     Err(Refusal::Count)
 }
 
-// The row of requests, for so many requests.
+// The row of requests, for so many requests. That a slice holds bytes is known of a parameter, and not of a struct's field: so it is said, for the writer to know.
 fn judge_requests(object: Kind, count: usize, requests: &[u8]) -> Result<(), Refusal>
     requires { count ≤ 16 * 255 }
-    ensures numbers { passed [] result ≡ forgotten (requests_reader object count requests.now requests.now) }
+    ensures outcome { passed [] result ≡ forgotten (requests_reader object count requests.now requests.now) }
     ensures bytes { Each Byte requests.now }
 {
     if requests.len() < 5 * count {
@@ -122,7 +122,7 @@ impl Given<'_> {
 
     // All rules but the last, 13, in their order.
     fn judge(self) -> Result<(), Refusal>
-        ensures numbers { let g = as_given self.entry in passed [] result ≡ forgotten (given_reader g g.requests) }
+        ensures outcome { let g = as_given self.entry in passed [] result ≡ forgotten (given_reader g g.requests) }
         ensures bytes { OnOk result (Each Byte self.entry.requests.now) }
     {
         self.judge_numbers()?;

@@ -10,25 +10,25 @@ use Rattle.bench_writer.specs.Writer.{requests_reader}
 use Rattle.bench_writer.proofs.Forgotten.{forgotten_tallied}
 use Rattle.bench_writer.proofs.judge_requests.Goals as goal
 
-pub returns-then-requests-count-clause-numbers : goal.returns-then-requests-count-clause-numbers
+pub returns-then-requests-count-clause-outcome : goal.returns-then-requests-count-clause-outcome
 unfolding requests_reader
-returns-then-requests-count-clause-numbers c = simp (lt-leb _ _ c.if-requests-count.true)
+returns-then-requests-count-clause-outcome c = simp (lt-leb _ _ c.if-requests-count.true)
 
-pub returns-then-count-requests-clause-numbers : goal.returns-then-count-requests-clause-numbers
+pub returns-then-count-requests-clause-outcome : goal.returns-then-count-requests-clause-outcome
 unfolding requests_reader
-returns-then-count-requests-clause-numbers c =
+returns-then-count-requests-clause-outcome c =
     simp (le-leb _ _ c.if-requests-count.false, lt-leb _ _ c.if-count-requests.true)
 
-pub returns-clause-numbers : goal.returns-clause-numbers
+pub returns-clause-outcome : goal.returns-clause-outcome
 unfolding requests_reader
-returns-clause-numbers c =
+returns-clause-outcome c =
     let a = c.args in
     simp (le-leb _ _ c.if-requests-count.false, le-leb _ _ c.if-count-requests.false)
     (ap forgotten c.in_ok-read_request_row.ensures.result_value ∙ forgotten_tallied (sum_of single) (several a.count (request_reader a.object) a.requests.now))
 
-pub returns-in_err-read_request_row-clause-numbers : goal.returns-in_err-read_request_row-clause-numbers
+pub returns-in_err-read_request_row-clause-outcome : goal.returns-in_err-read_request_row-clause-outcome
 unfolding requests_reader
-returns-in_err-read_request_row-clause-numbers c =
+returns-in_err-read_request_row-clause-outcome c =
     let a = c.args in
     rw (passed_on c.from_residual.result c.from_residual.ensures) (simp (le-leb _ _ c.if-requests-count.false, le-leb _ _ c.if-count-requests.false)
     (ap forgotten c.in_err-read_request_row.ensures.result_value ∙ forgotten_tallied (sum_of single) (several a.count (request_reader a.object) a.requests.now)))

@@ -23,32 +23,32 @@ size g t = omega (arith, raw_length g, interleaved_length g.counts g.requests (o
 pub returns-in_err-judge : goal.returns-in_err-judge
 returns-in_err-judge c =
     let g = as_given c.args.given in
-    let refused = forgotten_refused (given_reader g g.requests) c.in_err-judge.ensures.numbers in
+    let refused = forgotten_refused (given_reader g g.requests) c.in_err-judge.ensures.outcome in
     rw (passed_on c.from_residual.result c.from_residual.ensures) (writes g _ _ _ (λ z. absurd (omega (arith, given_tabled g refused, z))) (write_refused g _ _ refused) refl refl refl)
 
 pub length-length-requires : goal.length-length-requires
 length-length-requires c =
-    let (f, t) = taken (as_given c.args.given) c.in_ok-judge.ensures.bytes c.in_ok-judge.ensures.numbers in
+    let (f, t) = taken (as_given c.args.given) c.in_ok-judge.ensures.bytes c.in_ok-judge.ensures.outcome in
     omega (arith, t.threads, t.few, t.asked, t.entries)
 
 pub returns-then-out-length : goal.returns-then-out-length
 returns-then-out-length c =
     let g = as_given c.args.given in
     let p = c.in_ok-judge.ensures.bytes in
-    let (f, t) = taken g p c.in_ok-judge.ensures.numbers in
+    let (f, t) = taken g p c.in_ok-judge.ensures.outcome in
     writes g _ _ _ (λ _. p) (write_short g f (length c.args.out.now) t (omega (arith, size g t, c.length-length.ensures, c.if-out-length.true))) refl refl refl
 
 pub put_file-requires : goal.put_file-requires
 put_file-requires c =
     let g = as_given c.args.given in
-    let (f, t) = taken g c.in_ok-judge.ensures.bytes c.in_ok-judge.ensures.numbers in
+    let (f, t) = taken g c.in_ok-judge.ensures.bytes c.in_ok-judge.ensures.outcome in
     (t.object, t.method, t.entries, omega (arith, t.asked), omega (arith, size g t, c.length-length.ensures, c.if-out-length.false))
 
 pub returns : goal.returns
 returns c =
     let g = as_given c.args.given in
     let p = c.in_ok-judge.ensures.bytes in
-    let (f, t) = taken g p c.in_ok-judge.ensures.numbers in
+    let (f, t) = taken g p c.in_ok-judge.ensures.outcome in
     let long = size g t in
     writes g _ _ _ (λ _. p)
     (write_whole g f (length c.args.out.now) t (omega (arith, long, c.length-length.ensures, c.if-out-length.false)))

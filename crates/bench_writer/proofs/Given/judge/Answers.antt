@@ -7,15 +7,15 @@ use Rattle.bench_writer.proofs.Rules.{rules_kept}
 use Rattle.bench_writer.proofs.Forgotten.{forgotten_refused, forgotten_read, passed_last}
 use Rattle.bench_writer.proofs.Given.judge.Goals as goal
 
-pub returns-in_err-judge_numbers-clause-numbers : goal.returns-in_err-judge_numbers-clause-numbers
+pub returns-in_err-judge_numbers-clause-outcome : goal.returns-in_err-judge_numbers-clause-outcome
 unfolding given_reader
-returns-in_err-judge_numbers-clause-numbers c =
+returns-in_err-judge_numbers-clause-outcome c =
     let row = c.args.self.requests.now in
     rw (passed_on c.from_residual.result c.from_residual.ensures) (simp (sym (c.in_err-judge_numbers.ensures row)))
 
-pub returns-in_err-judge_counts-clause-numbers : goal.returns-in_err-judge_counts-clause-numbers
+pub returns-in_err-judge_counts-clause-outcome : goal.returns-in_err-judge_counts-clause-outcome
 unfolding given_reader
-returns-in_err-judge_counts-clause-numbers c =
+returns-in_err-judge_counts-clause-outcome c =
     let row = c.args.self.requests.now in
     rw (passed_on c.from_residual-in_err-judge_counts.result c.from_residual-in_err-judge_counts.ensures) (simp (sym (c.in_ok-judge_numbers.ensures row), sym (c.in_err-judge_counts.ensures row)))
 
@@ -27,18 +27,18 @@ total_of-count-requires c =
     let long = (rules_kept (count_rules a.n a.counts.now) row (sym (c.in_ok-judge_counts.ensures row))).0.1.0 in
     omega (arith, (within_range 1 a.n 16).0 n, leb-true (length a.counts.now) a.n long)
 
-pub returns-in_err-judge_requests-clause-numbers : goal.returns-in_err-judge_requests-clause-numbers
+pub returns-in_err-judge_requests-clause-outcome : goal.returns-in_err-judge_requests-clause-outcome
 unfolding given_reader
-returns-in_err-judge_requests-clause-numbers c =
+returns-in_err-judge_requests-clause-outcome c =
     let row = c.args.self.requests.now in
-    let asked = forgotten_refused (requests_reader c.kind_of.result c.total_of-count.result row row) c.in_err-judge_requests.ensures.numbers in
+    let asked = forgotten_refused (requests_reader c.kind_of.result c.total_of-count.result row row) c.in_err-judge_requests.ensures.outcome in
     rw (passed_on c.from_residual-in_err-judge_requests.result c.from_residual-in_err-judge_requests.ensures) (simp (sym (c.in_ok-judge_numbers.ensures row), sym (c.in_ok-judge_counts.ensures row), ← c.kind_of.ensures, ← c.total_of-count.ensures.0, asked))
 
 -- behind requests that were read, the rules of the schedule come last
-pub returns-clause-numbers : goal.returns-clause-numbers
+pub returns-clause-outcome : goal.returns-clause-outcome
 unfolding given_reader
-returns-clause-numbers c =
+returns-clause-outcome c =
     let row = c.args.self.requests.now in
-    let (requests, rest, asked) = forgotten_read (requests_reader c.kind_of.result c.total_of-count.result row row) c.in_ok-judge_requests.ensures.numbers in
+    let (requests, rest, asked) = forgotten_read (requests_reader c.kind_of.result c.total_of-count.result row row) c.in_ok-judge_requests.ensures.outcome in
     simp (sym (c.in_ok-judge_numbers.ensures row), sym (c.in_ok-judge_counts.ensures row), ← c.kind_of.ensures, ← c.total_of-count.ensures.0, asked)
     (passed_last _ rest c.judge_entries.result (c.judge_entries.ensures rest))
