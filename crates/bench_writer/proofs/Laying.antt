@@ -1,4 +1,4 @@
--- A loop that lays the rows into a buffer keeps what is left to lay: laws for its start, a pass and its end. Assumes nothing.
+-- A loop that lays the rows into a buffer keeps what is left to lay: laws for a pass and its end; how long a file is, and its head. Assumes nothing.
 use Prim.Native.Nat.{ℕ, ◌+◌, ◌*◌, ◌≤◌, ◌<◌}
 use native.Mathlib.Omega.{arith}
 use mathlib.Core.Path.{◌≡◌, refl, sym, ap, ◌∙◌}

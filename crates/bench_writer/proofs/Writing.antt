@@ -1,6 +1,6 @@
 -- What the writer of specs/Writer.antt writes: the bytes of fields in range, judged accepted with the same fields; and that the
 -- rows of requests go into them as they are given. Assumes nothing.
-use Prim.Native.Nat.{ℕ, suc, ◌*◌, ◌≤◌, ◌<◌}
+use Prim.Native.Nat.{ℕ, suc, ◌+◌, ◌*◌, ◌≤◌, ◌<◌}
 use native.Mathlib.Nat.{le_antisymm}
 use native.Mathlib.Omega.{arith}
 use mathlib.Core.Path.{◌≡◌, refl, sym, ap, ◌∙◌}
@@ -13,7 +13,7 @@ use Rattle.object.specs.declared.Request.{Request}
 use Rattle.object.specs.Paper.{kind_of}
 use Rattle.object.proofs.Inverse.{kind_of_number}
 use Rattle.bench_file.specs.Reading.{Outcome, refused, read, after, rules, several}
-use Rattle.bench_file.specs.Layout.{Fields, Judgement, accepted, refused_by, judged, judge_of, request_reader}
+use Rattle.bench_file.specs.Layout.{Fields, head_length, Judgement, accepted, refused_by, judged, judge_of, request_reader}
 use Rattle.object.specs.Each.{Each, sum_of}
 use Rattle.bench_file.specs.Bytes.{request_bytes, each_bytes, row_bytes, bytes_of, Byte, RequestInRange, RowInRange, CapacityInRange, InRange}
 use Rattle.bench_writer.specs.Buffer.{Fills}
@@ -27,6 +27,7 @@ use Rattle.bench_file.proofs.Methods.{method_of_number}
 use Rattle.bench_file.proofs.Size.{request_length}
 use Rattle.bench_file.proofs.Numbered.{Numbered, done_numbered, after_numbered, several_numbered, request_numbered}
 use Rattle.bench_writer.proofs.Filling.{fitted_whole, fitted_came, fills, filled, filled_as}
+use Rattle.bench_writer.proofs.Laying.{interleaved_length, raw_length}
 use Rattle.bench_writer.proofs.Methods.{method_known, method_first}
 use Rattle.bench_writer.proofs.Rows.{total_bound}
 use Rattle.bench_writer.proofs.Rules.{rules_kept, rules_numbered}
@@ -151,21 +152,26 @@ pub record Takes (g : Given) (f : Fields) : Type 0 where
   pub few : total g.counts ≤ 256
   pub asked : length g.requests ≡ 5 * total g.counts
   pub entries : length g.schedule ≤ 32768
+  pub row : Each Byte g.requests
   pub bytes : bytes_of f ≡ raw_bytes g
+  pub long : length (raw_bytes g) ≡ head_length g.version + length g.counts + length g.requests + 2 + length g.schedule
 
 pub takes : (g : Given) (f : Fields) (rest : List ℕ) → Each Byte g.requests → given_reader g g.requests ≡ read f rest → Takes g f
 unfolding given_of
 takes g f rest p e =
     let t = taken g f p (rw e) in
+    let asked : length g.requests ≡ 5 * total g.counts = ap length t.whole ∙ each_bytes_length request_bytes 5 request_length t.requests ∙ ap (λ (k : ℕ). 5 * k) t.number in
     record {
       fields = rw e;
       object = t.object;
       method = method_known g.version g.method t.method;
       threads = omega (arith, t.threads, t.n);
       few = omega (arith, total_bound 16 g.counts t.counts, t.threads, t.n);
-      asked = ap length t.whole ∙ each_bytes_length request_bytes 5 request_length t.requests ∙ ap (λ (k : ℕ). 5 * k) t.number;
+      asked = asked;
       entries = t.entries;
+      row = p;
       bytes = taken_bytes g f t;
+      long = omega (arith, raw_length g, interleaved_length g.counts g.requests (omega arith), asked);
     }
 
 -- the writer's refusals have numbers, so that 0 is no refusal

@@ -1,24 +1,20 @@
 -- Refused, too short a buffer, or the whole file. Assumes nothing.
-use Rattle.std.proofs.Common.{◌≡◌, ◌+◌, [], length, refl, ◌∙◌, arith}
-use Rattle.refusal.proofs.Numbers.{passed_on}
+use Rattle.std.proofs.Common.{◌≡◌, [], length, refl, ◌∙◌, arith}
 use native.Mathlib.Nat.{zero-add}
+use Rattle.refusal.proofs.Numbers.{passed_on}
 use Rattle.object.specs.Each.{Each}
 use Rattle.bench_file.specs.Reading.{read}
 use Rattle.bench_file.specs.Bytes.{Byte}
 use Rattle.bench_file.specs.Cursor.{forgotten}
-use Rattle.bench_file.specs.Layout.{Fields, head_length}
-use Rattle.bench_writer.specs.Writer.{Given, as_given, given_reader, raw_bytes}
+use Rattle.bench_file.specs.Layout.{Fields}
+use Rattle.bench_writer.specs.Writer.{Given, as_given, given_reader}
 use Rattle.bench_writer.proofs.Forgotten.{forgotten_refused, forgotten_read}
-use Rattle.bench_writer.proofs.Laying.{interleaved_length, raw_length}
 use Rattle.bench_writer.proofs.Writing.{Takes, takes, given_tabled, write_refused, write_short, write_whole, writes}
 use Rattle.bench_writer.proofs.write.Goals as goal
 
 -- what no rule refuses is taken, with its fields
 taken : (g : Given) → Each Byte g.requests → read tt [] ≡ forgotten (given_reader g g.requests) → (f : Fields) × Takes g f
 taken g p e = let (f, rest, h) = forgotten_read (given_reader g g.requests) e in (f, takes g f rest p h)
-
-size : (g : Given) {f : Fields} → Takes g f → length (raw_bytes g) ≡ head_length g.version + 2 + length g.counts + length g.requests + length g.schedule
-size g t = omega (arith, raw_length g, interleaved_length g.counts g.requests (omega (arith, t.asked)), t.asked)
 
 pub returns-in_err-judge : goal.returns-in_err-judge
 returns-in_err-judge c =
@@ -29,27 +25,22 @@ returns-in_err-judge c =
 pub length-length-requires : goal.length-length-requires
 length-length-requires c =
     let (f, t) = taken (as_given c.args.given) c.in_ok-judge.ensures.bytes c.in_ok-judge.ensures.outcome in
-    omega (arith, t.threads, t.few, t.asked, t.entries)
+    omega arith
 
 pub returns-then-out-length : goal.returns-then-out-length
 returns-then-out-length c =
     let g = as_given c.args.given in
-    let p = c.in_ok-judge.ensures.bytes in
-    let (f, t) = taken g p c.in_ok-judge.ensures.outcome in
-    writes g _ _ _ (λ _. p) (write_short g f (length c.args.out.now) t (omega (arith, size g t, c.length-length.ensures, c.if-out-length.true))) refl refl refl
+    let (f, t) = taken g c.in_ok-judge.ensures.bytes c.in_ok-judge.ensures.outcome in
+    writes g _ _ _ (λ _. t.row) (write_short g f (length c.args.out.now) t (omega (arith, c.length-length.ensures))) refl refl refl
 
 pub put_file-requires : goal.put_file-requires
 put_file-requires c =
-    let g = as_given c.args.given in
-    let (f, t) = taken g c.in_ok-judge.ensures.bytes c.in_ok-judge.ensures.outcome in
-    (t.object, t.method, t.entries, omega (arith, t.asked), omega (arith, size g t, c.length-length.ensures, c.if-out-length.false))
+    let (f, t) = taken (as_given c.args.given) c.in_ok-judge.ensures.bytes c.in_ok-judge.ensures.outcome in
+    (t.object, t.method, t.entries, omega arith, omega (arith, c.length-length.ensures))
 
 pub returns : goal.returns
 returns c =
     let g = as_given c.args.given in
-    let p = c.in_ok-judge.ensures.bytes in
-    let (f, t) = taken g p c.in_ok-judge.ensures.outcome in
-    let long = size g t in
-    writes g _ _ _ (λ _. p)
-    (write_whole g f (length c.args.out.now) t (omega (arith, long, c.length-length.ensures, c.if-out-length.false)))
-    refl (omega (arith, long, c.length-length.ensures)) (c.put_file.ensures ∙ rw zero-add)
+    let (f, t) = taken g c.in_ok-judge.ensures.bytes c.in_ok-judge.ensures.outcome in
+    writes g _ _ _ (λ _. t.row) (write_whole g f (length c.args.out.now) t (omega (arith, c.length-length.ensures)))
+    refl (omega (arith, c.length-length.ensures)) (c.put_file.ensures ∙ rw zero-add)
