@@ -8,7 +8,7 @@ use Rattle.bench_file.specs.Layout.{Fields, accepted, judge_of}
 use Rattle.bench_file.specs.Bytes.{bytes_of, InRange, in_version}
 use Rattle.bench_file.proofs.RoundTrip.{reads_back}
 use Rattle.bench_file.proofs.Twin.{twin}
-use Rattle.bench_writer.specs.declared.Written.{Written}
+use Rattle.bench_writer.specs.Writer.{Written}
 use Rattle.bench_writer.specs.Convert.{Converts}
 use Rattle.bench.specs.Run.{result_in}
 

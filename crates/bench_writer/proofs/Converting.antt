@@ -1,6 +1,7 @@
 -- What is written for a file in a wanted version: its bytes from the file's, accepted with the same fields, and converted back the file. Assumes nothing.
 use Prim.Native.Nat.{ℕ, ◌+◌, ◌≤◌, ◌<◌}
 use native.Mathlib.Omega.{arith}
+use Rattle.std.specs.Prelude.{Ok, Err}
 use mathlib.Core.Path.{◌≡◌, refl, sym, ap, ◌∙◌}
 use mathlib.Core.Bool.{Bool, true, false, cond}
 use mathlib.Core.List.{List, ◌++◌, append_assoc}
@@ -12,7 +13,6 @@ use Rattle.object.proofs.Within.{within_range}
 use Rattle.machine.specs.declared.Method.TheVariants.{CcSynch}
 use Rattle.machine.specs.Methods.{method_number}
 use Rattle.bench_file.specs.declared.Head.{Head}
-use Rattle.std.specs.Prelude.{Ok, Err}
 use Rattle.bench_file.specs.declared.Judged.{Judged}
 use Rattle.bench_file.specs.Layout.{Fields, head_length, version_known, Judgement, accepted, refused_by, judge_of}
 use Rattle.bench_file.specs.Bytes.{low_first, each_bytes, row_bytes, head_bytes, bytes_of, Byte, InRange, head_in, in_version}
@@ -23,7 +23,7 @@ use Rattle.bench_file.proofs.Numbered.{refused_tabled}
 use Rattle.bench_file.proofs.RoundTrip.{accepted_in_range, writes_back, reads_back}
 use Rattle.bench_file.proofs.Size.{head_length_lem, length_bytes}
 use Rattle.bench_file.proofs.Twin.{in_version_lem}
-use Rattle.bench_writer.specs.declared.Written.{Written}
+use Rattle.bench_writer.specs.Writer.{Written}
 use Rattle.bench_writer.specs.Buffer.{writing, refused_writing, Fills}
 use Rattle.bench_writer.specs.Writer.{Writing, fitted, most_method}
 use Rattle.bench_writer.specs.Convert.{allows_method, converted_as, convert_of, as_second, as_first, head_converted, Converts}
@@ -121,8 +121,8 @@ module _ (bytes : List ℕ) (wanted room : ℕ) where
     unfolding convert_of
     with_head f p judged is = rw (known, judged, ← is) (head_inside bytes f p judged, by_head bytes f p judged wanted room)
 
-    pub own_head : {answer : Judged} → Each Byte bytes → Ok answer ≡ judged_as (judge_of bytes)
-        → (head_length answer.head.version ≤ length bytes) × (convert_of bytes wanted room ≡ head_converted wanted room answer.head (drop (head_length answer.head.version) bytes))
+    pub own_head : {j : Judged} → Each Byte bytes → Ok j ≡ judged_as (judge_of bytes)
+        → (head_length j.head.version ≤ length bytes) × (convert_of bytes wanted room ≡ head_converted wanted room j.head (drop (head_length j.head.version) bytes))
     own_head p e = let (f, judged, is) = accepted_fields (judge_of bytes) e in with_head f p judged is
 
 -- what is written, where it is not refused

@@ -7,7 +7,7 @@ use mathlib.Core.List.{List, ◌++◌}
 use lib.ListN.{length, take, drop}
 use lib.Seq.{take_at}
 use borrow.Author.Tests.{le-leb, lt-leb}
-use Rattle.bench_writer.specs.declared.Written.{Written}
+use Rattle.bench_writer.specs.Writer.{Written}
 use Rattle.bench_writer.specs.Buffer.{writing, Fills}
 use Rattle.bench_writer.specs.Writer.{Writing, fitted}
 

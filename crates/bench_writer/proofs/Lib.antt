@@ -7,5 +7,6 @@ pub mod Methods
 pub mod Pasted
 pub mod Rows
 pub mod Rules
+pub mod Spelled
 pub mod Whole
 pub mod Writing

@@ -1,6 +1,6 @@
 -- What the writer of specs/Writer.antt writes: the bytes of fields in range, judged accepted with the same fields; and that the
 -- rows of requests go into them as they are given. Assumes nothing.
-use Prim.Native.Nat.{ℕ, suc, ◌*◌, ◌≤◌, ◌<◌}
+use Prim.Native.Nat.{ℕ, suc, ◌+◌, ◌*◌, ◌≤◌, ◌<◌}
 use native.Mathlib.Nat.{le_antisymm}
 use native.Mathlib.Omega.{arith}
 use mathlib.Core.Path.{◌≡◌, refl, sym, ap, ◌∙◌}
@@ -12,14 +12,13 @@ use Rattle.object.specs.declared.Kind.{Kind}
 use Rattle.object.specs.declared.Request.{Request}
 use Rattle.object.specs.Paper.{kind_of}
 use Rattle.object.proofs.Inverse.{kind_of_number}
-use Rattle.machine.specs.Methods.{method_of}
 use Rattle.bench_file.specs.Reading.{Outcome, refused, read, after, rules, several}
-use Rattle.bench_file.specs.Layout.{Fields, Judgement, accepted, refused_by, judged, judge_of, request_reader}
+use Rattle.bench_file.specs.Layout.{Fields, head_length, Judgement, accepted, refused_by, judged, judge_of, request_reader}
 use Rattle.object.specs.Each.{Each, sum_of}
 use Rattle.bench_file.specs.Bytes.{request_bytes, each_bytes, row_bytes, bytes_of, Byte, RequestInRange, RowInRange, CapacityInRange, InRange}
 use Rattle.bench_writer.specs.Buffer.{Fills}
-use Rattle.bench_writer.specs.Writer.{Writing, Given, total, dealt, interleaved, raw_bytes, most_method, number_rules, count_rules, size_rules, entry_rules, requests_reader, given_reader, given_of, written_as, write_of, WritesAs}
-use Rattle.bench_writer.specs.declared.Written.{Written}
+use Rattle.bench_writer.specs.Writer.{Writing, Given, head_given, total, dealt, interleaved, raw_bytes, most_method, number_rules, count_rules, size_rules, entry_rules, requests_reader, given_reader, given_of, written_as, write_of, WritesAs}
+use Rattle.bench_writer.specs.Writer.{Written}
 use Rattle.object.proofs.Each.{each_take, each_drop, each_map, every_each}
 use Rattle.object.proofs.Within.{within_range}
 use Rattle.bench_file.proofs.Each.{each_bytes_length, each_bytes_take, each_bytes_drop}
@@ -28,7 +27,9 @@ use Rattle.bench_file.proofs.Methods.{method_of_number}
 use Rattle.bench_file.proofs.Size.{request_length}
 use Rattle.bench_file.proofs.Numbered.{Numbered, done_numbered, after_numbered, several_numbered, request_numbered}
 use Rattle.bench_writer.proofs.Filling.{fitted_whole, fitted_came, fills, filled, filled_as}
+use Rattle.bench_writer.proofs.Laying.{interleaved_length, raw_length}
 use Rattle.bench_writer.proofs.Methods.{method_known, method_first}
+use Rattle.bench_writer.proofs.Rows.{total_bound}
 use Rattle.bench_writer.proofs.Rules.{rules_kept, rules_numbered}
 use Rattle.bench_writer.proofs.Whole.{written_back}
 use Rattle.bench_file.proofs.RoundTrip.{capacity_range, request_codec, judged_came, reads_back}
@@ -67,7 +68,7 @@ all_read bs l left e h =
 -- the fields that the writer takes, from the requests that it read
 abbrev taken_fields : Given → List Request → Fields
 taken_fields g requests = record {
-  head = record { version = g.version; object = kind_of g.object; n = g.n; h = g.h; capacity = g.capacity; method = method_of g.method };
+  head = head_given g;
   rows = dealt g.counts requests;
   schedule = g.schedule;
 }
@@ -142,31 +143,35 @@ module _ (g : Given) (f : Fields) where
   pub given_in_range : Each Byte g.requests → given_of g ≡ accepted f → InRange f
   given_in_range p e = taken_range (taken g f p e)
 
-total_bound : (counts : List ℕ) → Each (λ count. count ≤ 16) counts → total counts ≤ 16 * length counts
-unfolding sum_of
-total_bound [] p = omega arith
-total_bound (count ∷ counts) p = omega (arith, p.0, total_bound counts p.1)
-
 -- what the code needs of fields that the writer was given and takes
 pub record Takes (g : Given) (f : Fields) : Type 0 where
   pub fields : given_of g ≡ accepted f
+  pub object : g.object ≤ 2
+  pub method : g.method ≤ 1
   pub threads : length g.counts ≤ 16
   pub few : total g.counts ≤ 256
   pub asked : length g.requests ≡ 5 * total g.counts
   pub entries : length g.schedule ≤ 32768
+  pub row : Each Byte g.requests
   pub bytes : bytes_of f ≡ raw_bytes g
+  pub long : length (raw_bytes g) ≡ head_length g.version + length g.counts + length g.requests + 2 + length g.schedule
 
 pub takes : (g : Given) (f : Fields) (rest : List ℕ) → Each Byte g.requests → given_reader g g.requests ≡ read f rest → Takes g f
 unfolding given_of
 takes g f rest p e =
     let t = taken g f p (rw e) in
+    let asked : length g.requests ≡ 5 * total g.counts = ap length t.whole ∙ each_bytes_length request_bytes 5 request_length t.requests ∙ ap (λ (k : ℕ). 5 * k) t.number in
     record {
       fields = rw e;
+      object = t.object;
+      method = method_known g.version g.method t.method;
       threads = omega (arith, t.threads, t.n);
-      few = omega (arith, total_bound g.counts t.counts, t.threads, t.n);
-      asked = ap length t.whole ∙ each_bytes_length request_bytes 5 request_length t.requests ∙ ap (λ (k : ℕ). 5 * k) t.number;
+      few = omega (arith, total_bound 16 g.counts t.counts, t.threads, t.n);
+      asked = asked;
       entries = t.entries;
+      row = p;
       bytes = taken_bytes g f t;
+      long = omega (arith, raw_length g, interleaved_length g.counts g.requests (omega arith), asked);
     }
 
 -- the writer's refusals have numbers, so that 0 is no refusal
@@ -183,9 +188,12 @@ judged_zero : (o : Outcome Fields) → judged o ≡ refused_by 0 → o ≡ refus
 judged_zero (refused refusal) e = cc
 judged_zero (read f rest) e = let z : ◌≡◌ {A = ℕ} 0 1 = cc in absurd (omega arith)
 
+pub given_tabled : (g : Given) {refusal : ℕ} → given_reader g g.requests ≡ refused refusal → 1 ≤ refusal
+given_tabled g {refusal} e = omega (arith, (given_numbered g).tabled g.requests refusal e)
+
 given_never : (g : Given) → given_of g ≡ refused_by 0 → ⊥
 unfolding given_of
-given_never g e = omega (arith, (given_numbered g).tabled g.requests 0 (judged_zero _ e))
+given_never g e = omega (arith, given_tabled g (judged_zero _ e))
 
 -- what is written without a refusal
 written_came : (g : Given) (room : ℕ) (j : Judgement) → given_of g ≡ j → (written_as room j).refusal ≡ 0 → (f : Fields) × (j ≡ accepted f) × ((written_as room j).bytes ≡ bytes_of f)
@@ -213,7 +221,7 @@ written_accepted g room p h =
     (f, e, rw b (reads_back f (given_in_range g f p e)))
 
 -- the whole promise, from what is written and the buffer after it
-pub writes : (g : Given) (answer : Written) (before after : List ℕ) {w : Writing} → Each Byte g.requests → write_of g (length before) ≡ w
+pub writes : (g : Given) (answer : Written) (before after : List ℕ) {w : Writing} → (answer.refusal ≡ 0 → Each Byte g.requests) → write_of g (length before) ≡ w
     → answer.refusal ≡ w.refusal → answer.length ≡ length w.bytes → after ≡ w.bytes ++ drop (length w.bytes) before
     → WritesAs g answer before after
 writes g answer before after p e refusal count buffer =
@@ -223,7 +231,7 @@ writes g answer before after p e refusal count buffer =
       count = whole.count;
       buffer = whole.buffer;
       meant = λ z.
-          let (f, given, judged) = written_accepted g (length before) p (sym whole.refusal ∙ z) in
+          let (f, given, judged) = written_accepted g (length before) (p z) (sym whole.refusal ∙ z) in
           (f, given, rw (filled whole) judged);
       unchanged = λ bytes f bs a given room.
           let back = filled_as whole (rw given (written_back bytes f (length before) bs a room)) in

@@ -1,6 +1,6 @@
 -- Bytes into a lent buffer: what a service writes, and the buffer before and after it.
 use Rattle.std.specs.Prelude.{ℕ, ◌≡◌, List, [], ◌++◌, length, drop}
-use Rattle.bench_writer.specs.declared.Written.{Written}
+use Rattle.bench_writer.specs.Writer.{Written}
 use Rattle.bench_writer.specs.Writer.{Writing}
 
 -- these bytes, and no refusal

@@ -6,7 +6,7 @@ use Rattle.machine.specs.Methods.{method_number}
 use Rattle.bench_file.specs.declared.Head.{Head}
 use Rattle.bench_file.specs.Layout.{Fields, version_known, Judgement, accepted, refused_by, judge_of}
 use Rattle.bench_file.specs.Bytes.{head_bytes, bytes_of, head_in, in_version}
-use Rattle.bench_writer.specs.declared.Written.{Written}
+use Rattle.bench_writer.specs.Writer.{Written}
 use Rattle.bench_writer.specs.Buffer.{writing, refused_writing, Fills}
 use Rattle.bench_writer.specs.Writer.{Writing, fitted, most_method}
 

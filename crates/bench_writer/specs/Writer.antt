@@ -1,12 +1,15 @@
 -- The writer: fields given as numbers and rows, judged in the order of documents 01 and 02, and what is then written.
-use Rattle.std.specs.Prelude.{ℕ, ◌+◌, ◌*◌, ◌≤◌, ◌≡◌, Bool, cond, List, [], ◌∷◌, ◌++◌, map, length, take, drop, leb, ltb, eqb}
+use Rattle.std.specs.Prelude.{ℕ, ◌+◌, ◌*◌, ◌≤◌, ◌≡◌, Bool, cond, List, [], ◌∷◌, ◌++◌, map, length, take, drop, leb, ltb, eqb, Result, Ok, Err}
+use Rattle.refusal.specs.declared.Refusal.{Refusal}
+use Rattle.refusal.specs.Numbers.{number}
 use Rattle.object.specs.declared.Kind.{Kind}
 use Rattle.object.specs.declared.Request.{Request}
 use Rattle.object.specs.Paper.{within, kind_number, kind_of, least_capacity, most_capacity}
-use Rattle.bench_writer.specs.declared.Written.{Written}
+use Rattle.bench_writer.specs.declared.Given as code
 use Rattle.object.specs.Each.{Each, every, sum_of}
-use Rattle.bench_file.specs.Reading.{Reader, ◌>>=◌, ◌>>◌, done, rules, several}
+use Rattle.bench_file.specs.Reading.{Outcome, refused, read, Reader, ◌>>=◌, ◌>>◌, done, rules, several}
 use Rattle.machine.specs.Methods.{method_number, method_of}
+use Rattle.bench_file.specs.declared.Head.{Head}
 use Rattle.bench_file.specs.Layout.{Fields, version_known, Judgement, accepted, refused_by, judged, judge_of, request_reader}
 use Rattle.bench_file.specs.Bytes.{low_first, request_bytes, each_bytes, head_from, bytes_of, Byte}
 
@@ -34,6 +37,15 @@ given_by version object n h capacity method counts requests schedule = record {
   requests = requests;
   schedule = schedule;
 }
+
+-- the code's fields, each slice by its bytes
+abbrev pub as_given : code.Given → Given
+as_given given =
+    given_by given.version given.object given.n given.h given.capacity given.method given.counts.now given.requests.now given.schedule.now
+
+-- the head that the numbers stand for
+abbrev pub head_given : Given → Head
+head_given g = record { version = g.version; object = kind_of g.object; n = g.n; h = g.h; capacity = g.capacity; method = method_of g.method }
 
 -- how many requests the counts ask for
 abbrev pub total : List ℕ → ℕ
@@ -99,10 +111,15 @@ given_reader g = do
   requests ← requests_reader (kind_of g.object) (total g.counts) g.requests
   rules (entry_rules g.n g.schedule)
   done (record {
-    head = record { version = g.version; object = kind_of g.object; n = g.n; h = g.h; capacity = g.capacity; method = method_of g.method };
+    head = head_given g;
     rows = dealt g.counts requests;
     schedule = g.schedule;
   })
+
+-- the code's answer to rules, which keeps no field: the reading goes on with these bytes, or the refusal
+abbrev pub passed : {A : Type 0} → List ℕ → Result A Refusal → Outcome Unit
+passed bytes (Ok a) = read tt bytes
+passed bytes (Err refusal) = refused (number refusal)
 
 -- the fields that the writer is given, or the refusal
 unfoldable pub given_of : Given → Judgement
@@ -136,6 +153,16 @@ write_of g room = written_as room (given_of g)
 -- bytes laid into a buffer from a place on, the others as they were
 abbrev pub pasted : List ℕ → ℕ → List ℕ → List ℕ
 pasted buffer at bytes = take at buffer ++ bytes ++ drop (at + length bytes) buffer
+
+-- the refusal, 0 for none, and how many bytes were written
+pub record Written : Type 0 where
+  pub refusal : ℕ
+  pub length : ℕ
+
+-- the code's answer: a refusal has length 0
+abbrev pub as_written : Result ℕ Refusal → Written
+as_written (Ok count) = record { refusal = 0; length = count }
+as_written (Err refusal) = record { refusal = number refusal; length = 0 }
 
 -- what the service answers to given fields, and the lent buffer before and after it
 pub record WritesAs (g : Given) (answer : Written) (before after : List ℕ) : Type 0 where

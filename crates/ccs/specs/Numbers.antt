@@ -5,7 +5,7 @@ use Rattle.machine.specs.Methods.{method_number}
 use Rattle.bench_file.specs.declared.Judged.{Judged}
 use Rattle.bench_file.specs.Layout.{judge_of}
 use Rattle.bench_file.specs.Promise.{judged_as, judged_refusal, Judges}
-use Rattle.bench_writer.specs.declared.Written.{Written}
+use Rattle.bench_writer.specs.Writer.{Written}
 use Rattle.bench_writer.specs.Convert.{Converts}
 use Rattle.bench.specs.Answer.{RunAnswer}
 use Rattle.bench.specs.Run.{result_in}

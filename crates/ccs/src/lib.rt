@@ -4,13 +4,14 @@
 ghost use Rattle.std.specs.Prelude.{◌≡◌};
 ghost use Rattle.refusal.specs.Numbers.{by_number};
 ghost use Rattle.bench_file.specs.Promise.{judged_refusal};
-ghost use Rattle.bench_writer.specs.Writer.{given_by, WritesAs};
+ghost use Rattle.bench_writer.specs.Writer.{given_by, as_written, WritesAs};
 ghost use Rattle.bench.specs.Promise.{Runs};
 ghost use Rattle.listing.specs.Promise.{Lists};
 ghost use Rattle.page.specs.Promise.{Prints};
 ghost use Rattle.ccs.specs.Numbers.{judged_numbers, JudgedIn, answer_in, written_in, ConvertsAlike, printed_in};
 
 use bench_file::Judged;
+use bench_writer::Given;
 use refusal::Refusal;
 
 // A judgement's number, 0 for an accepted file.
@@ -88,6 +89,22 @@ pub extern "C" fn ccs_run(file: &[u8], out: &mut [u8], numbers: &mut [u32; 5]) -
     }
 }
 
+// Refusal 0 and the length written; or a refusal's number, and length 0.
+fn length_or_refusal(written: Result<usize, Refusal>, length: &mut usize) -> u8
+    ensures { written_in result length.new ≡ as_written written }
+{
+    match written {
+        Ok(count) => {
+            *length = count;
+            0
+        }
+        Err(refusal) => {
+            *length = 0;
+            refusal.number()
+        }
+    }
+}
+
 // Writes the bench file of given fields, in version 1 or 2, into a lent buffer, and its length; the length of a refusal is 0, of 15 for a method that there is not
 // or that version 1 has not.
 #[unsafe(no_mangle)]
@@ -106,11 +123,18 @@ pub extern "C" fn ccs_write(
 ) -> u8
     ensures { WritesAs (given_by version object n h capacity method counts.now requests.now schedule.now) (written_in result length.new) out.old out.new }
 {
-    let written = bench_writer::write(
-        version, object, n, h, capacity, method, counts, requests, schedule, out,
-    );
-    *length = written.length;
-    written.refusal
+    let given = Given {
+        version,
+        object,
+        n,
+        h,
+        capacity,
+        method,
+        counts,
+        requests,
+        schedule,
+    };
+    length_or_refusal(bench_writer::write(given, out), length)
 }
 
 // Judges any bytes as a bench file and writes it in the wanted version into a lent buffer, and its length; the length of a refusal is 0: of 3 where the version is
@@ -119,9 +143,7 @@ pub extern "C" fn ccs_write(
 pub extern "C" fn ccs_convert(file: &[u8], wanted: u16, out: &mut [u8], length: &mut usize) -> u8
     ensures { ConvertsAlike file.now wanted (written_in result length.new) out.old out.new }
 {
-    let written = bench_writer::convert(file, wanted, out);
-    *length = written.length;
-    written.refusal
+    length_or_refusal(bench_writer::convert(file, wanted, out), length)
 }
 
 // Lists any bytes as a bench file: its listing into a lent buffer, and the length; the length of a refusal, which is 13 alone, is 0.

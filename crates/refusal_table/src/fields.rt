@@ -3,6 +3,7 @@ ghost use Rattle.std.specs.Prelude.{◌<◌, ◌≤◌};
 
 use crate::show;
 use crate::show::first;
+use bench_writer::Given;
 use console::Output;
 
 // Where the rows of each version begin.
@@ -40,22 +41,24 @@ fn answers(output: &mut Output, file: [u8; 19], rows: usize)
         method = file[9];
     }
     let mut out = [0u8; 21];
-    show::written(
-        output,
-        version(file[3], file[4]),
-        [file[5], file[6], file[7], file[8], method],
-        &[file[rows]],
-        &[
+    let given = Given {
+        version: version(file[3], file[4]),
+        object: file[5],
+        n: file[6],
+        h: file[7],
+        capacity: file[8],
+        method,
+        counts: &[file[rows]],
+        requests: &[
             file[rows + 1],
             file[rows + 2],
             file[rows + 3],
             file[rows + 4],
             file[rows + 5],
         ],
-        &[file[rows + 8]],
-        &mut out,
-        20,
-    );
+        schedule: &[file[rows + 8]],
+    };
+    show::written(output, given, &mut out, 20);
 }
 
 fn sweep(

@@ -3,6 +3,7 @@ ghost use Rattle.std.specs.Prelude.{◌≤◌};
 
 use crate::show;
 use crate::show::{fill, first};
+use bench_writer::Given;
 use console::Output;
 
 // The version and the bytes given: object, n, h, capacity, method, each count, each request's code, the first and last byte of its
@@ -10,7 +11,7 @@ use console::Output;
 fn case(
     output: &mut Output,
     version: u16,
-    given: [u8; 9],
+    bytes: [u8; 9],
     counts: usize,
     requests: usize,
     schedule: usize,
@@ -20,7 +21,7 @@ fn case(
 {
     output.text(b"given");
     output.spaced(version as u64);
-    show::bytes(output, &given);
+    show::bytes(output, &bytes);
     output.text(b" rows");
     output.spaced(counts as u64);
     output.spaced(requests as u64);
@@ -28,13 +29,13 @@ fn case(
     output.text(b" room");
     output.spaced(room as u64);
     output.text(b":");
-    write_rows(output, version, given, counts, requests, schedule, room);
+    write_rows(output, version, bytes, counts, requests, schedule, room);
 }
 
 fn write_rows(
     output: &mut Output,
     version: u16,
-    given: [u8; 9],
+    bytes: [u8; 9],
     counts: usize,
     requests: usize,
     schedule: usize,
@@ -45,20 +46,22 @@ fn write_rows(
     let mut count_row = [0u8; 17];
     let mut request_row = [0u8; 1281];
     let mut entry_row = [0u8; 70000];
-    fill(&mut count_row, &[given[5]]);
-    fill(&mut request_row, &[given[6], given[7], 0, 0, given[7]]);
-    fill(&mut entry_row, &[0, given[8]]);
+    fill(&mut count_row, &[bytes[5]]);
+    fill(&mut request_row, &[bytes[6], bytes[7], 0, 0, bytes[7]]);
+    fill(&mut entry_row, &[0, bytes[8]]);
     let mut out = [0u8; 34077];
-    show::written(
-        output,
+    let given = Given {
         version,
-        [given[0], given[1], given[2], given[3], given[4]],
-        first(&count_row, counts),
-        first(&request_row, requests),
-        first(&entry_row, schedule),
-        &mut out,
-        room,
-    );
+        object: bytes[0],
+        n: bytes[1],
+        h: bytes[2],
+        capacity: bytes[3],
+        method: bytes[4],
+        counts: first(&count_row, counts),
+        requests: first(&request_row, requests),
+        schedule: first(&entry_row, schedule),
+    };
+    show::written(output, given, &mut out, room);
 }
 
 // Two threads with a put each; with two entries 25 bytes.

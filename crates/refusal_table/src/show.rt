@@ -1,6 +1,7 @@
 // What the judge and the writer answer, as words and numbers on standard output.
 ghost use Rattle.std.specs.Prelude.{◌<◌, ◌≤◌, length};
 
+use bench_writer::Given;
 use console::Output;
 
 fn wide(x: u8) -> u64 {
@@ -91,38 +92,20 @@ fn held(output: &mut Output, out: &[u8]) {
     output.spaced(sums);
 }
 
-// Gives the writer a version, then object, n, h, capacity and method, and lends it the first bytes of a buffer that holds 0xAA only.
-// Shows its refusal, the length written and what the whole buffer holds then.
-pub(crate) fn written(
-    output: &mut Output,
-    version: u16,
-    numbers: [u8; 5],
-    counts: &[u8],
-    requests: &[u8],
-    schedule: &[u8],
-    out: &mut [u8],
-    room: usize,
-)
+// Lends the writer the first bytes of a buffer that holds 0xAA only. Shows its refusal, the length written and what the whole buffer holds then.
+pub(crate) fn written(output: &mut Output, given: Given, out: &mut [u8], room: usize)
     requires { room ≤ length out.old }
 {
     fill(out, &[0xAA]);
-    let answer = bench_writer::write(
-        version,
-        numbers[0],
-        numbers[1],
-        numbers[2],
-        numbers[3],
-        numbers[4],
-        counts,
-        requests,
-        schedule,
-        &mut out[0..room],
-    );
+    let (refusal, length) = match bench_writer::write(given, &mut out[0..room]) {
+        Ok(length) => (0, length),
+        Err(refusal) => (refusal.number(), 0),
+    };
     output.text(b" written");
-    byte(output, answer.refusal);
-    output.spaced(answer.length as u64);
+    byte(output, refusal);
+    output.spaced(length as u64);
     held(output, out);
-    around(output, out, answer.length);
+    around(output, out, length);
     output.text(b"\n");
 }
 

@@ -4,13 +4,15 @@ use Rattle.bench_file.specs.Bytes.{low_first}
 use Rattle.bench_writer.proofs.Pasted.{pasted_behind}
 use Rattle.bench_writer.proofs.put_head.Goals as goal
 
-pub returns-then-version-eq1 : goal.returns-then-version-eq1
+pub returns-then-head-eq1 : goal.returns-then-head-eq1
 unfolding low_first
-returns-then-version-eq1 c = rw (eq-eqb _ _ c.if-version-eq1.true) c.put.ensures
+returns-then-head-eq1 c = rw (eq-eqb _ _ c.if-head-eq1.true, ← c.from-object.ensures) (rw c.to_le_bytes.ensures at c.put.ensures)
 
 pub returns : goal.returns
 unfolding low_first
 returns c =
     let a = c.args in
-    let nine : List ℕ = 0x43 ∷ 0x43 ∷ 0x53 ∷ a.version % 256 ∷ a.version / 256 % 256 ∷ a.object ∷ a.n ∷ a.h ∷ a.capacity ∷ [] in
-    rw (ne_eqb _ _ c.if-version-eq1.false) (pasted_behind a.out.now nine (a.method ∷ []) 9 c.put.ensures refl c.put-2.ensures)
+    let head = a.head in
+    let nine : List ℕ = 0x43 ∷ 0x43 ∷ 0x53 ∷ head.version % 256 ∷ head.version / 256 % 256 ∷ c.from-object.result ∷ head.n ∷ head.h ∷ head.capacity ∷ [] in
+    rw (ne_eqb _ _ c.if-head-eq1.false, ← c.from-object.ensures, ← c.from-method.ensures)
+    (pasted_behind a.out.now nine (c.from-method.result ∷ []) 9 (rw c.to_le_bytes.ensures at c.put.ensures) refl c.put-2.ensures)

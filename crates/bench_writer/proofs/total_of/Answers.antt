@@ -1,11 +1,12 @@
--- A pass takes the next count from what is left, and at the end none is left. Assumes nothing.
-use Rattle.std.proofs.Common.{arith}
-use Rattle.bench_writer.proofs.Rows.{total_more, total_end}
+-- The sum that std makes is the paper's total. Assumes nothing.
+use Rattle.std.proofs.Common.{◌≡◌, ◌≤◌, rules, sum, ◌∙◌, arith}
+use Rattle.object.proofs.Each.{each_there}
+use Rattle.bench_writer.proofs.Rows.{total_sum, total_bound}
 use Rattle.bench_writer.proofs.total_of.Goals as goal
 
-pub loop-i-preserved : goal.loop-i-preserved
-loop-i-preserved c =
-    omega (arith, c.type_inv.counts c.loop-i.i, total_more c.args.counts.now c.loop-i.i c.loop-i-test.true)
-
 pub returns : goal.returns
-returns c = omega (arith, total_end c.args.counts.now c.loop-i.i c.loop-i-test.false)
+returns c =
+    let counts = c.args.counts.now in
+    let is : c.sum.result ≡ sum counts = search rules in
+    let bound = total_bound 255 counts (each_there (λ count. count ≤ 255) 0 counts (λ i h. omega (arith, c.type_inv.counts i))) in
+    (is ∙ total_sum counts, omega (arith, is, total_sum counts, bound))
