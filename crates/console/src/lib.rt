@@ -1,12 +1,13 @@
-// What the programs do with standard input and output: words and numbers written, and an input's first bytes read.
+// What the programs do with standard input and output: text written, and an input's first bytes read.
 #![tactic(auto)]
 
 ghost use Rattle.std.specs.Prelude.{◌≤◌, length, IfOk};
 
+use std::fmt::Display;
 use std::io;
 use std::io::{Read, Stdout};
 
-// Standard output. After a write that failed nothing more is written.
+// Standard output, which `write!` writes to. After a write that failed nothing more is written.
 #[derive(Drop)]
 pub struct Output {
     stdout: Stdout,
@@ -21,22 +22,10 @@ impl Output {
         }
     }
 
-    pub fn text(&mut self, s: &[u8]) {
+    pub fn write_fmt<D: Display + Drop>(&mut self, text: D) {
         if self.written.is_ok() {
-            self.written = self.stdout.write_all(s);
+            self.written = self.stdout.print(text);
         }
-    }
-
-    pub fn number(&mut self, x: u64) {
-        if self.written.is_ok() {
-            self.written = self.stdout.print(x);
-        }
-    }
-
-    // A number after a space.
-    pub fn spaced(&mut self, x: u64) {
-        self.text(b" ");
-        self.number(x);
     }
 
     // The failure, if a write failed.

@@ -3,81 +3,68 @@ use crate::show;
 use crate::show::{cuts, first};
 use console::Output;
 
-fn judged(output: &mut Output, name: &[u8], file: &[u8]) {
-    output.text(name);
-    output.text(b":");
+fn judged(output: &mut Output, name: &str, file: &[u8]) {
+    write!(output, "{name}:");
     show::judged(output, file);
-    output.text(b"\n");
+    writeln!(output);
 }
 
 // One thread without requests, and a schedule whose length has a given low byte, with 32,769 bytes behind it.
 fn schedule(low: u8) -> [u8; 32781] {
-    let mut file = [0u8; 32781];
-    file[0] = b'C';
-    file[1] = b'C';
-    file[2] = b'S';
-    file[3] = 1;
-    file[5] = 2;
-    file[6] = 1;
-    file[7] = 1;
+    let mut file = [0; 32781];
+    file[..12].copy_from_slice(b"CCS\x01\0\x02\x01\x01\0\0\0\x80");
     file[10] = low;
-    file[11] = 0x80;
     file
 }
 
 // As many entries as a schedule may have, and one more.
 fn entries(output: &mut Output) {
-    let long = schedule(1);
-    judged(output, b"32,769 entries", &long);
+    judged(output, "32,769 entries", &schedule(1));
     let most = schedule(0);
-    judged(output, b"32,768 entries", first(&most, 32780));
-    judged(output, b"32,768 entries and a byte", &most);
+    judged(output, "32,768 entries", first(&most, 32780));
+    judged(output, "32,768 entries and a byte", &most);
 }
 
 // Version 2: the method's byte stands behind the capacity, and is judged where it is read.
 fn second(output: &mut Output) {
-    cuts(output, b"version 0", b"CCS\0\0");
-    cuts(output, b"version 2, no more", b"CCS\x02\0");
-    cuts(output, b"version 257", b"CCS\x01\x01");
-    cuts(output, b"version 258", b"CCS\x02\x01");
-    cuts(output, b"no method", b"CCS\x02\0\x02\x01\x01\0");
+    cuts(output, "version 0", b"CCS\0\0");
+    cuts(output, "version 2, no more", b"CCS\x02\0");
+    cuts(output, "version 257", b"CCS\x01\x01");
+    cuts(output, "version 258", b"CCS\x02\x01");
+    cuts(output, "no method", b"CCS\x02\0\x02\x01\x01\0");
     cuts(
         output,
-        b"method 2, rows",
+        "method 2, rows",
         b"CCS\x02\0\x02\x01\x01\0\x02\0\0\0",
     );
-    cuts(output, b"method 1", b"CCS\x02\0\x02\x01\x01\0\x01");
+    cuts(output, "method 1", b"CCS\x02\0\x02\x01\x01\0\x01");
     cuts(
         output,
-        b"method 1, rows",
+        "method 1, rows",
         b"CCS\x02\0\x02\x01\x01\0\x01\0\0\0",
     );
+    cuts(output, "method 0, rows", b"CCS\x02\0\x02\x01\x01\0\0\0\0\0");
     cuts(
         output,
-        b"method 0, rows",
-        b"CCS\x02\0\x02\x01\x01\0\0\0\0\0",
-    );
-    cuts(
-        output,
-        b"a byte more",
+        "a byte more",
         b"CCS\x02\0\x02\x01\x01\0\x01\0\0\0\0",
     );
-    cuts(output, b"capacity 5", b"CCS\x02\0\x02\x01\x01\x05");
+    cuts(output, "capacity 5", b"CCS\x02\0\x02\x01\x01\x05");
     cuts(
         output,
-        b"capacity 5, method 255",
+        "capacity 5, method 255",
         b"CCS\x02\0\x02\x01\x01\x05\xFF",
     );
     cuts(
         output,
-        b"65 bytes, method 0",
+        "65 bytes, method 0",
         b"CCS\x02\0\x02\x01\x01\0\0\x02\x02\x05\0\0\0\x02\x07\0\0\0\x2A\0\
             \0\0\0\0\0\0\0\0\0\0\0\0\0\0\0\0\0\0\0\0\0\
             \0\0\0\0\0\0\0\0\0\0\0\0\0\0\0\0\0\0\0\0\0",
     );
     cuts(
         output,
-        b"65 bytes, method 1",
+        "65 bytes, method 1",
         b"CCS\x02\0\x02\x01\x01\0\x01\x02\x02\x05\0\0\0\x02\x07\0\0\0\x2A\0\
             \0\0\0\0\0\0\0\0\0\0\0\0\0\0\0\0\0\0\0\0\0\
             \0\0\0\0\0\0\0\0\0\0\0\0\0\0\0\0\0\0\0\0\0",
@@ -85,54 +72,50 @@ fn second(output: &mut Output) {
 }
 
 pub(crate) fn run(output: &mut Output) {
-    cuts(output, b"example 1", b"CC");
-    cuts(output, b"example 2", b"CCT");
-    cuts(output, b"example 3", b"CCS\x03\0");
-    cuts(output, b"example 4", b"CCS\x01\0\x03");
-    cuts(output, b"example 5", b"CCS\x01\0\x02\0");
-    cuts(output, b"example 6", b"CCS\x01\0\x02\x01\0");
-    cuts(output, b"example 7", b"CCS\x01\0\x02\x01\x01\x05");
-    cuts(output, b"example 8", b"CCS\x01\0\x02\x01\x01\0\x11");
-    cuts(output, b"example 9", b"CCS\x01\0\x02\x01\x01\0\x01\x01");
-    cuts(output, b"example 10", b"CCS\x01\0\x02\x01\x01\0\0\x01\x80");
+    cuts(output, "example 1", b"CC");
+    cuts(output, "example 2", b"CCT");
+    cuts(output, "example 3", b"CCS\x03\0");
+    cuts(output, "example 4", b"CCS\x01\0\x03");
+    cuts(output, "example 5", b"CCS\x01\0\x02\0");
+    cuts(output, "example 6", b"CCS\x01\0\x02\x01\0");
+    cuts(output, "example 7", b"CCS\x01\0\x02\x01\x01\x05");
+    cuts(output, "example 8", b"CCS\x01\0\x02\x01\x01\0\x11");
+    cuts(output, "example 9", b"CCS\x01\0\x02\x01\x01\0\x01\x01");
+    cuts(output, "example 10", b"CCS\x01\0\x02\x01\x01\0\0\x01\x80");
+    cuts(output, "example 11", b"CCS\x01\0\x02\x01\x01\0\0\x01\0\x01");
+    cuts(output, "example 12", b"CCS\x01\0\x02\x01\x01\0\0\0\0\xFF");
+    cuts(output, "example 15", b"CCS\x02\0\x02\x01\x01\0\x02");
     cuts(
         output,
-        b"example 11",
-        b"CCS\x01\0\x02\x01\x01\0\0\x01\0\x01",
-    );
-    cuts(output, b"example 12", b"CCS\x01\0\x02\x01\x01\0\0\0\0\xFF");
-    cuts(output, b"example 15", b"CCS\x02\0\x02\x01\x01\0\x02");
-    cuts(
-        output,
-        b"64 bytes",
+        "64 bytes",
         b"CCS\x01\0\x02\x01\x01\0\x02\x02\x05\0\0\0\x02\x07\0\0\0\x2A\0\
             \0\0\0\0\0\0\0\0\0\0\0\0\0\0\0\0\0\0\0\0\0\
             \0\0\0\0\0\0\0\0\0\0\0\0\0\0\0\0\0\0\0\0\0",
     );
-    cuts(output, b"length 32,768", b"CCS\x01\0\x02\x01\x01\0\0\0\x80");
+    cuts(output, "length 32,768", b"CCS\x01\0\x02\x01\x01\0\0\0\x80");
     cuts(
         output,
-        b"length 65,535",
+        "length 65,535",
         b"CCS\x01\0\x02\x01\x01\0\0\xFF\xFF",
     );
     cuts(
         output,
-        b"length 2, entry 0",
+        "length 2, entry 0",
         b"CCS\x01\0\x02\x01\x01\0\0\x02\0\0",
     );
     cuts(
         output,
-        b"length 2, entry 1",
+        "length 2, entry 1",
         b"CCS\x01\0\x02\x01\x01\0\0\x02\0\x01",
     );
     cuts(
         output,
-        b"n 16, entry 15",
+        "n 16, entry 15",
         b"CCS\x01\0\x01\x10\xFF\x40\0\0\0\0\0\0\0\0\0\0\0\0\0\0\0\0\x02\0\0\x0F",
     );
     cuts(
         output,
-        b"n 16, entry 16",
+        "n 16, entry 16",
         b"CCS\x01\0\x01\x10\xFF\x40\0\0\0\0\0\0\0\0\0\0\0\0\0\0\0\0\x02\0\0\x10",
     );
     entries(output);

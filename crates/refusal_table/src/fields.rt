@@ -2,169 +2,176 @@
 ghost use Rattle.std.specs.Prelude.{◌<◌, ◌≤◌};
 
 use crate::show;
-use crate::show::first;
 use bench_writer::Given;
 use console::Output;
+use object::Kind;
 
-// Where the rows of each version begin.
-const FIRST: usize = 9;
+#[derive(Clone, Copy)]
+enum Version {
+    First = 1,
+    Second = 2,
+}
 
-const SECOND: usize = 10;
-
-// One thread with one request and one entry, its row from a place on: 9 more bytes. In version 2 byte 9 is method 0.
-fn small(rows: usize, object: u8, capacity: u8, code: u8) -> [u8; 19]
-    requires { rows ≤ 10 }
-{
-    let mut file = *b"CCS\x01\0\0\x01\x01\0\0\0\0\0\0\0\0\0\0\0";
-    if rows == SECOND {
-        file[3] = 2;
+impl Version {
+    // Where the rows begin: behind the method's byte in version 2.
+    fn rows(self) -> usize
+        ensures { result ≤ 10 }
+    {
+        match self {
+            Version::First => 9,
+            Version::Second => 10,
+        }
     }
-    file[5] = object;
-    file[8] = capacity;
-    file[rows] = 1;
-    file[rows + 1] = code;
-    file[rows + 6] = 1;
-    file
 }
 
-fn version(low: u8, high: u8) -> u16 {
-    (low as u16) + 256 * (high as u16)
-}
-
-fn answers(output: &mut Output, file: [u8; 19], rows: usize)
-    requires { rows ≤ 10 }
-{
-    let bytes: &[u8] = first(&file, rows + 9);
-    show::judged(output, bytes);
-    let mut method = 0;
-    if rows == SECOND {
-        method = file[9];
-    }
-    let mut out = [0u8; 21];
-    let given = Given {
-        version: version(file[3], file[4]),
-        object: file[5],
-        n: file[6],
-        h: file[7],
-        capacity: file[8],
-        method,
-        counts: &[file[rows]],
-        requests: &[
-            file[rows + 1],
-            file[rows + 2],
-            file[rows + 3],
-            file[rows + 4],
-            file[rows + 5],
-        ],
-        schedule: &[file[rows + 8]],
-    };
-    show::written(output, given, &mut out, 20);
-}
-
-fn sweep(
-    output: &mut Output,
-    name: &[u8],
-    field: &[u8],
+// A file of one thread with one request and one entry, its row from a place on: 9 more bytes. In version 2 byte 9 is method 0.
+#[derive(Clone, Copy)]
+struct Sample {
+    name: &'static str,
+    version: Version,
     file: [u8; 19],
-    rows: usize,
-    at: usize,
-    values: &[u8],
-)
-    requires { (rows ≤ 10) × (at < 19) }
-{
-    for value in values {
-        output.text(name);
-        output.text(b" ");
-        output.text(field);
-        show::byte(output, *value);
-        output.text(b":");
-        let mut other = file;
-        other[at] = *value;
-        answers(output, other, rows);
+}
+
+impl Sample {
+    // With the least capacity and the least code that the object allows.
+    fn new(name: &'static str, version: Version, kind: Kind) -> Sample {
+        let mut file = *b"CCS\0\0\0\x01\x01\0\0\0\0\0\0\0\0\0\0\0";
+        let rows = version.rows();
+        file[3] = version as u8;
+        file[5] = u8::from(kind);
+        file[8] = object::least_capacity(kind);
+        file[rows] = 1;
+        file[rows + 1] = object::least_code(kind);
+        file[rows + 6] = 1;
+        Sample {
+            name,
+            version,
+            file,
+        }
+    }
+
+    fn named(self, name: &'static str) -> Sample {
+        Sample { name, ..self }
+    }
+
+    // The same with a take.
+    fn taking(self, name: &'static str) -> Sample {
+        let mut sample = self.named(name);
+        sample.file[self.version.rows() + 1] = 1;
+        sample
+    }
+
+    fn bytes(&self) -> &[u8] {
+        &self.file[..self.version.rows() + 9]
+    }
+
+    fn method(&self) -> u8 {
+        match self.version {
+            Version::First => 0,
+            Version::Second => self.file[9],
+        }
+    }
+
+    fn answers(&self, output: &mut Output) {
+        show::judged(output, self.bytes());
+        let file = &self.file;
+        let rows = self.version.rows();
+        let given = Given {
+            version: u16::from_le_bytes([file[3], file[4]]),
+            object: file[5],
+            n: file[6],
+            h: file[7],
+            capacity: file[8],
+            method: self.method(),
+            counts: &file[rows..rows + 1],
+            requests: &file[rows + 1..rows + 6],
+            schedule: &file[rows + 8..rows + 9],
+        };
+        show::written(output, given, &mut [0; 21], 20);
+    }
+
+    // A byte is exchanged for each of the values.
+    fn sweep(&self, output: &mut Output, field: &str, at: usize, values: &[u8])
+        requires { at < 19 }
+    {
+        for value in values {
+            write!(output, "{} {field} {value}:", self.name);
+            let mut other = *self;
+            other.file[at] = *value;
+            other.answers(output);
+        }
+    }
+
+    fn starts(&self, output: &mut Output) {
+        self.sweep(output, "mark 0", 0, &[0x42, 0x44]);
+        self.sweep(output, "mark 1", 1, &[0x42, 0x44]);
+        self.sweep(output, "mark 2", 2, &[0x52, 0x54]);
+        self.sweep(output, "version low", 3, &[0, 1, 2, 3]);
+        self.sweep(output, "version high", 4, &[0, 1]);
+    }
+
+    fn lengths(&self, output: &mut Output) {
+        let rows = self.version.rows();
+        self.sweep(output, "length low", rows + 6, &[0, 1, 2]);
+        self.sweep(output, "length high", rows + 7, &[0x7F, 0x80, 0xFF]);
+    }
+
+    fn numbers(&self, output: &mut Output) {
+        let rows = self.version.rows();
+        self.sweep(output, "object", 5, &[0, 1, 2, 3]);
+        self.sweep(output, "n", 6, &[0, 1, 16, 17]);
+        self.sweep(output, "h", 7, &[0, 1, 255]);
+        self.sweep(output, "capacity", 8, &[0, 1, 64, 65]);
+        self.sweep(output, "count", rows, &[0, 1, 16, 17]);
+        self.sweep(output, "entry", rows + 8, &[0, 1, 255]);
+    }
+
+    fn methods(&self, output: &mut Output) {
+        self.sweep(output, "method", 9, &[0, 1, 2, 255]);
+    }
+
+    fn requests(&self, output: &mut Output) {
+        let rows = self.version.rows();
+        show::cuts(output, self.name, self.bytes());
+        self.sweep(output, "code", rows + 1, &[0, 1, 2, 3]);
+        self.sweep(output, "value 0", rows + 2, &[1]);
+        self.sweep(output, "value 1", rows + 3, &[1]);
+        self.sweep(output, "value 2", rows + 4, &[1]);
+        self.sweep(output, "value 3", rows + 5, &[1]);
     }
 }
 
-fn starts(output: &mut Output, name: &[u8], file: [u8; 19], rows: usize)
-    requires { rows ≤ 10 }
-{
-    sweep(output, name, b"mark 0", file, rows, 0, &[0x42, 0x44]);
-    sweep(output, name, b"mark 1", file, rows, 1, &[0x42, 0x44]);
-    sweep(output, name, b"mark 2", file, rows, 2, &[0x52, 0x54]);
-    sweep(output, name, b"version low", file, rows, 3, &[0, 1, 2, 3]);
-    sweep(output, name, b"version high", file, rows, 4, &[0, 1]);
-}
-
-fn lengths(output: &mut Output, name: &[u8], file: [u8; 19], rows: usize)
-    requires { rows ≤ 10 }
-{
-    sweep(
-        output,
-        name,
-        b"length low",
-        file,
-        rows,
-        rows + 6,
-        &[0, 1, 2],
-    );
-    sweep(
-        output,
-        name,
-        b"length high",
-        file,
-        rows,
-        rows + 7,
-        &[0x7F, 0x80, 0xFF],
-    );
-}
-
-fn numbers(output: &mut Output, name: &[u8], file: [u8; 19], rows: usize)
-    requires { rows ≤ 10 }
-{
-    sweep(output, name, b"object", file, rows, 5, &[0, 1, 2, 3]);
-    sweep(output, name, b"n", file, rows, 6, &[0, 1, 16, 17]);
-    sweep(output, name, b"h", file, rows, 7, &[0, 1, 255]);
-    sweep(output, name, b"capacity", file, rows, 8, &[0, 1, 64, 65]);
-    sweep(output, name, b"count", file, rows, rows, &[0, 1, 16, 17]);
-    sweep(output, name, b"entry", file, rows, rows + 8, &[0, 1, 255]);
-}
-
-fn requests(output: &mut Output, name: &[u8], file: [u8; 19], rows: usize)
-    requires { rows ≤ 10 }
-{
-    show::cuts(output, name, first(&file, rows + 9));
-    sweep(output, name, b"code", file, rows, rows + 1, &[0, 1, 2, 3]);
-    sweep(output, name, b"value 0", file, rows, rows + 2, &[1]);
-    sweep(output, name, b"value 1", file, rows, rows + 3, &[1]);
-    sweep(output, name, b"value 2", file, rows, rows + 4, &[1]);
-    sweep(output, name, b"value 3", file, rows, rows + 5, &[1]);
+fn first(output: &mut Output) {
+    let queue = Sample::new("queue", Version::First, Kind::Queue);
+    let stack = Sample::new("stack", Version::First, Kind::Stack);
+    let counter = Sample::new("counter", Version::First, Kind::Counter);
+    queue.starts(output);
+    queue.lengths(output);
+    queue.numbers(output);
+    stack.numbers(output);
+    counter.numbers(output);
+    queue.named("queue put").requests(output);
+    queue.taking("queue take").requests(output);
+    stack.named("stack put").requests(output);
+    stack.taking("stack take").requests(output);
+    counter.named("counter add").requests(output);
 }
 
 // In version 2, and by the other method.
 fn second(output: &mut Output) {
-    let queue = small(SECOND, 0, 1, 0);
-    let name = b"version 2 queue";
-    starts(output, name, queue, SECOND);
-    lengths(output, name, queue, SECOND);
-    numbers(output, name, queue, SECOND);
-    sweep(output, name, b"method", queue, SECOND, 9, &[0, 1, 2, 255]);
-    let mut counter = small(SECOND, 2, 0, 2);
-    counter[9] = 1;
-    let name = b"version 2 counter";
-    numbers(output, name, counter, SECOND);
-    sweep(output, name, b"method", counter, SECOND, 9, &[0, 1, 2, 255]);
-    requests(output, b"version 2 counter add", counter, SECOND);
+    let queue = Sample::new("version 2 queue", Version::Second, Kind::Queue);
+    queue.starts(output);
+    queue.lengths(output);
+    queue.numbers(output);
+    queue.methods(output);
+    let mut counter = Sample::new("version 2 counter", Version::Second, Kind::Counter);
+    counter.file[9] = 1;
+    counter.numbers(output);
+    counter.methods(output);
+    counter.named("version 2 counter add").requests(output);
 }
 
 pub(crate) fn run(output: &mut Output) {
-    starts(output, b"queue", small(FIRST, 0, 1, 0), FIRST);
-    lengths(output, b"queue", small(FIRST, 0, 1, 0), FIRST);
-    numbers(output, b"queue", small(FIRST, 0, 1, 0), FIRST);
-    numbers(output, b"stack", small(FIRST, 1, 1, 0), FIRST);
-    numbers(output, b"counter", small(FIRST, 2, 0, 2), FIRST);
-    requests(output, b"queue put", small(FIRST, 0, 1, 0), FIRST);
-    requests(output, b"queue take", small(FIRST, 0, 1, 1), FIRST);
-    requests(output, b"stack put", small(FIRST, 1, 1, 0), FIRST);
-    requests(output, b"stack take", small(FIRST, 1, 1, 1), FIRST);
-    requests(output, b"counter add", small(FIRST, 2, 0, 2), FIRST);
+    first(output);
     second(output);
 }

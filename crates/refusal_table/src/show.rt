@@ -1,112 +1,80 @@
 // What the judge and the writer answer, as words and numbers on standard output.
-ghost use Rattle.std.specs.Prelude.{◌<◌, ◌≤◌, length};
-
+use bench_file::Judged;
 use bench_writer::Given;
 use console::Output;
+use refusal::Refusal;
 
-fn wide(x: u8) -> u64 {
-    x as u64
-}
-
-pub(crate) fn byte(output: &mut Output, x: u8) {
-    output.spaced(wide(x));
-}
-
-pub(crate) fn bytes(output: &mut Output, s: &[u8]) {
-    for x in s {
-        byte(output, *x);
-    }
+// The number of the judge's refusal, 0 for none.
+fn refusal(file: &[u8]) -> u8 {
+    bench_file::judge(file).err().map_or(0, Refusal::number)
 }
 
 // The first bytes of a slice, or all of them where it has fewer.
 pub(crate) fn first(s: &[u8], count: usize) -> &[u8] {
-    if count <= s.len() {
-        return &s[0..count];
-    }
-    s
-}
-
-// A row of bytes becomes a pattern repeated.
-pub(crate) fn fill(row: &mut [u8], pattern: &[u8])
-    requires { 0 < length pattern.now }
-{
-    for i in 0..row.len() {
-        row[i] = pattern[i % pattern.len()];
-    }
+    &s[..count.min(s.len())]
 }
 
 // Refusal 0 with the version, the object, n, h, the capacity, the method, the requests and the entries that the judge found; or the
 // refusal.
 pub(crate) fn judged(output: &mut Output, file: &[u8]) {
-    output.text(b" judged");
+    write!(output, " judged");
     match bench_file::judge(file) {
         Ok(judged) => {
-            let head = judged.head;
-            byte(output, 0);
-            output.spaced(head.version as u64);
+            let Judged {
+                head,
+                requests,
+                entries,
+            } = judged;
+            let version = head.version;
             let object = u8::from(head.object);
-            let by = u8::from(head.method);
-            bytes(output, &[object, head.n, head.h, head.capacity, by]);
-            output.spaced(judged.requests as u64);
-            output.spaced(judged.entries as u64);
+            let n = head.n;
+            let h = head.h;
+            let capacity = head.capacity;
+            let method = u8::from(head.method);
+            write!(
+                output,
+                " 0 {version} {object} {n} {h} {capacity} {method} {requests} {entries}"
+            );
         }
-        Err(refusal) => byte(output, refusal.number()),
+        Err(refusal) => write!(output, " {}", refusal.number()),
     }
 }
 
 // A file judged whole, and cut at each byte.
-pub(crate) fn cuts(output: &mut Output, name: &[u8], file: &[u8]) {
-    output.text(name);
-    output.text(b":");
+pub(crate) fn cuts(output: &mut Output, name: &str, file: &[u8]) {
+    write!(output, "{name}:");
     judged(output, file);
-    output.text(b" cuts");
-    for i in 0..file.len() {
-        byte(output, refusal(first(file, i)));
+    write!(output, " cuts");
+    for cut in 0..file.len() {
+        write!(output, " {}", refusal(&file[..cut]));
     }
-    output.text(b"\n");
-}
-
-fn refusal(file: &[u8]) -> u8 {
-    match bench_file::judge(file) {
-        Ok(_) => 0,
-        Err(refusal) => refusal.number(),
-    }
+    writeln!(output);
 }
 
 // How many bytes of a buffer hold 0xAA, and the sum of the sums of all its beginnings, which tells bytes that have changed places.
 fn held(output: &mut Output, out: &[u8]) {
-    let mut kept = 0;
-    let mut sum = 0;
-    let mut sums = 0;
+    let kept = out.iter().filter(|byte| **byte == 0xAA).count();
+    let mut sum = 0u64;
+    let mut sums = 0u64;
     for byte in out {
-        let byte = *byte;
-        if byte == 0xAA {
-            kept = std::num::wrapping_add_u64(kept, 1);
-        }
-        sum = std::num::wrapping_add_u64(sum, wide(byte));
-        sums = std::num::wrapping_add_u64(sums, sum);
+        sum = sum.wrapping_add(u64::from(*byte));
+        sums = sums.wrapping_add(sum);
     }
-    output.text(b" kept");
-    output.spaced(kept);
-    output.text(b" sums");
-    output.spaced(sums);
+    write!(output, " kept {kept} sums {sums}");
 }
 
-// Lends the writer the first bytes of a buffer that holds 0xAA only. Shows its refusal, the length written and what the whole buffer holds then.
-pub(crate) fn written(output: &mut Output, given: Given, out: &mut [u8], room: usize)
-    requires { room ≤ length out.old }
-{
-    fill(out, &[0xAA]);
-    let (refusal, length) = match bench_writer::write(given, &mut out[0..room]) {
-        Ok(length) => (0, length),
-        Err(refusal) => (refusal.number(), 0),
-    };
-    output.text(b" written");
-    byte(output, refusal);
-    output.spaced(length as u64);
+// Lends the writer the first bytes of a buffer that holds 0xAA only, or all of them where it has fewer. Shows its refusal, the length
+// written and what the whole buffer holds then.
+pub(crate) fn written(output: &mut Output, given: Given, out: &mut [u8], room: usize) {
+    out.fill(0xAA);
+    let lent = room.min(out.len());
+    let answer = bench_writer::write(given, &mut out[..lent]);
+    let length = answer.unwrap_or(0);
+    let refusal = answer.err().map_or(0, Refusal::number);
+    write!(output, " written {refusal} {length}");
     held(output, out);
     around(output, out, length);
-    output.text(b"\n");
+    writeln!(output);
 }
 
 // What was written is judged as it is, one byte short and one byte long.
@@ -115,8 +83,8 @@ fn around(output: &mut Output, out: &[u8], length: usize) {
         return;
     }
     judged(output, first(out, length));
-    byte(output, refusal(first(out, length - 1)));
+    write!(output, " {}", refusal(first(out, length - 1)));
     if length < out.len() {
-        byte(output, refusal(first(out, length + 1)));
+        write!(output, " {}", refusal(&out[..length + 1]));
     }
 }

@@ -8,7 +8,7 @@ pub(crate) fn run(output: &mut Output) {
     table(
         output,
         0,
-        b"dsm line 1: H.
+        "dsm line 1: H.
 dsm blank: H b0=3.
 dsm line 2: H l0=2 O0=0,1,
 dsm line 2, thread 1: H @1 l1=2 O1=0,1,
@@ -58,7 +58,7 @@ dsm line 26, remote three below 2 to the 32: H l0=26 f3=2 M253.",
     table(
         output,
         1,
-        b"dsm line of thread 0: H l0=0,1,2,3,13,14,21,22,28,29,255,
+        "dsm line of thread 0: H l0=0,1,2,3,13,14,21,22,28,29,255,
 dsm begun 0: H b0=0 l0=0,2,28,
 dsm my null: H y0=255 l0=0,2,3,4,28,
 dsm tmp null: H j0=255 l0=0,2,13,14,24,27,28,
@@ -83,7 +83,7 @@ cc toggle, my and pred: q @2 O0=9 y0=254 J0=255.",
     table(
         output,
         0,
-        b"dsm, two adds, 19 entries: I A0=5 A1=7 r0=2 |!0=19.
+        "dsm, two adds, 19 entries: I A0=5 A1=7 r0=2 |!0=19.
 dsm, two adds, 42 entries: I A0=5 A1=7 r0=2 |!0=42.
 dsm, a CAS that fails: I n2 A0=1 r0=1 A16=10 r1=1 |!0=17 !1=8 !0=2 !1=2 !0=4 !1=13.
 dsm, three threads, h 2: I n3 h2 A0=1 r0=1 A16=10 r1=1 A32=100 r2=1 |!0=8 !1=9 !2=9 !0=19 !1=3 !2=13.

@@ -7,7 +7,7 @@ pub(crate) fn run(output: &mut Output) {
     table(
         output,
         1,
-        b"line 1: q.
+        "line 1: q.
 line 2: q l1=2 z0,1,2,3,4,5,6,7,i1=0,1,2,3,
 line 3: q l1=3 z0,1,2,3,4,5,6,7,i1=0,1,2,3,
 line 4: q l1=4 z0,1,2,3,4,5,6,7,i1=0,1,2,3,
@@ -47,7 +47,7 @@ line 6, thread 15 of 16: X @15 P255=16 G254=0 l15=6 u15=16 b15=1,15,16,",
     table(
         output,
         1,
-        b"line 9, all other nodes wait: q l1=9 w0=1 w1=1 w3=1.
+        "line 9, all other nodes wait: q l1=9 w0=1 w1=1 w3=1.
 line 9, no other node waits: q l1=9 w1=0 w2=1 w3=0.
 line 10, all other nodes completed: q l1=10 d3=1 d2=0.
 line 10, no other node completed: q l1=10 d0=0 d1=0 d2=1.

@@ -7,7 +7,7 @@ pub(crate) fn run(output: &mut Output) {
     table(
         output,
         1,
-        b"limit, line 1: q R255,T255,B255,L255,M255,U254,
+        "limit, line 1: q R255,T255,B255,L255,M255,U254,
 limit, line 8: q l1=8 R255,T255,B255,L255,M255,U254,
 limit, line 12: q l1=12 R255,T255,B255,L255,M255,U254,
 limit, line 14: q l1=14 R255,T255,B255,L255,M255,U254,
@@ -36,7 +36,7 @@ limit, line 21, no copies: q l1=21 W165=168 R255,T255,B255,L255,M255,U254,",
     table(
         output,
         1,
-        b"limit, line 3, copies: q l1=3 W165=170 R255,T255,B255,L255,M255,U254,
+        "limit, line 3, copies: q l1=3 W165=170 R255,T255,B255,L255,M255,U254,
 limit, line 5, copies: q l1=5 W165=170 R255,T255,B255,L255,M255,U254,
 limit, line 9 spin, copies: q l1=9 w2=1 W165=170 R255,T255,B255,L255,M255,U254,
 limit, line 13, copies: q l1=13 W165=170 R255,T255,B255,L255,M255,U254,

@@ -8,7 +8,7 @@ pub(crate) fn run(output: &mut Output) {
     table(
         output,
         0,
-        b"state: Q n0,1,2,15,16,17,255,h0,1,2,254,255,
+        "state: Q n0,1,2,15,16,17,255,h0,1,2,254,255,
 used: q n0,1,2,3,4,16,17,
 queue: Q m0,1,2,63,64,65,255,
 stack: S m0,1,2,63,64,65,255,
@@ -39,7 +39,7 @@ last of 16, h 1: X v15=0,1,2,
     table(
         output,
         2,
-        b"node 0: q f0=0,3,4,254,255,
+        "node 0: q f0=0,3,4,254,255,
 node 3: q f3=0,3,4,254,255,
 node 4, past n: q f4=0,3,4,254,255,
 queue, empty req in node: q e0=0;1=0;2=0;3=0;4=0;16=0;

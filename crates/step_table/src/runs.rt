@@ -7,7 +7,7 @@ pub(crate) fn run(output: &mut Output) {
     table(
         output,
         0,
-        b"64 bytes, 42 entries: C A0=5 A1=7 r0=2 |!0=42.
+        "64 bytes, 42 entries: C A0=5 A1=7 r0=2 |!0=42.
 64 bytes, 4 entries: C A0=5 A1=7 r0=2 |!0=4.
 64 bytes, 5 entries: C A0=5 A1=7 r0=2 |!0=5.
 64 bytes, 21 entries: C A0=5 A1=7 r0=2 |!0=21.
