@@ -27,7 +27,7 @@ fn small(rows: usize, object: u8, capacity: u8, code: u8) -> [u8; 19]
 }
 
 fn version(low: u8, high: u8) -> u16 {
-    (low as u16) + 256 * (high as u16)
+    u16::from_le_bytes([low, high])
 }
 
 fn answers(output: &mut Output, file: [u8; 19], rows: usize)

@@ -3,12 +3,8 @@ ghost use Rattle.std.specs.Prelude.{◌<◌, ◌≤◌, length};
 
 use console::Output;
 
-fn wide(x: u8) -> u64 {
-    x as u64
-}
-
 pub(crate) fn byte(output: &mut Output, x: u8) {
-    output.spaced(wide(x));
+    output.spaced(x as u64);
 }
 
 pub(crate) fn bytes(output: &mut Output, s: &[u8]) {
@@ -19,18 +15,15 @@ pub(crate) fn bytes(output: &mut Output, s: &[u8]) {
 
 // The first bytes of a slice, or all of them where it has fewer.
 pub(crate) fn first(s: &[u8], count: usize) -> &[u8] {
-    if count <= s.len() {
-        return &s[0..count];
-    }
-    s
+    s.get(..count).unwrap_or(s)
 }
 
 // A row of bytes becomes a pattern repeated.
 pub(crate) fn fill(row: &mut [u8], pattern: &[u8])
     requires { 0 < length pattern.now }
 {
-    for i in 0..row.len() {
-        row[i] = pattern[i % pattern.len()];
+    for (i, byte) in row.iter_mut().enumerate() {
+        *byte = pattern[i % pattern.len()];
     }
 }
 
@@ -74,19 +67,15 @@ fn refusal(file: &[u8]) -> u8 {
 
 // How many bytes of a buffer hold 0xAA, and the sum of the sums of all its beginnings, which tells bytes that have changed places.
 fn held(output: &mut Output, out: &[u8]) {
-    let mut kept = 0;
-    let mut sum = 0;
-    let mut sums = 0;
+    let kept = out.iter().filter(|byte| **byte == 0xAA).count();
+    let mut sum = 0u64;
+    let mut sums = 0u64;
     for byte in out {
-        let byte = *byte;
-        if byte == 0xAA {
-            kept = std::num::wrapping_add_u64(kept, 1);
-        }
-        sum = std::num::wrapping_add_u64(sum, wide(byte));
-        sums = std::num::wrapping_add_u64(sums, sum);
+        sum = sum.wrapping_add(*byte as u64);
+        sums = sums.wrapping_add(sum);
     }
     output.text(b" kept");
-    output.spaced(kept);
+    output.spaced(kept as u64);
     output.text(b" sums");
     output.spaced(sums);
 }
