@@ -4,14 +4,12 @@ use native.Mathlib.Nat.{le_of_suc-le-suc, not-suc-le-zero}
 use native.Mathlib.Numerals.{add-one, add-two, add-three}
 use native.Mathlib.Omega.{arith}
 use mathlib.Core.Path.{◌≡◌, refl, sym, ◌∙◌}
-use mathlib.Core.Bool.{Bool, true, false, ◌&&◌}
+use mathlib.Core.Bool.{Bool, true, false}
 use mathlib.Core.List.{List, [], ◌∷◌}
 use lib.ListN.{length, get_or, take, drop, drop_of_length-le, length-drop}
 use lib.Seq.{take-nil, drop-cons, drop-drop}
-use lib.Dec.{eqb}
-use borrow.Author.Tests.{eq-eqb, ne_eqb}
+use borrow.Author.Tests.{ne_eqb}
 use Rattle.std.specs.Int.{w16, w32, from_le_bytes}
-use Rattle.bench_file.specs.Layout.{is_mark}
 use Rattle.bench_file.specs.Cursor.{number_read}
 use Rattle.bench_file.specs.Reading.{Outcome, refused, read, Reader, after, rule, field, little_endian, byte, ruled_byte}
 
@@ -90,15 +88,6 @@ module _ (s : List ℕ) (at : ℕ) where
   pub four_at : from_le_bytes w32 (get_or s at 0 ∷ get_or s (at + 1) 0 ∷ get_or s (at + 2) 0 ∷ get_or s (at + 3) 0 ∷ []) ≡ little_endian (take 4 (drop at s))
   unfolding little_endian
   four_at = rw (add-one, add-two, add-three) (omega (arith, low_at s at 3, low_at s (suc at) 2, low_at s (suc (suc at)) 1, low_at s (suc (suc (suc at))) 0))
-
-pub mark_at : (s : List ℕ) → is_mark (take 3 s) ≡ (eqb (get_or s 0 0) 0x43 && eqb (get_or s 1 0) 0x43 && eqb (get_or s 2 0) 0x53)
-mark_at [] = refl
-mark_at (a ∷ []) = refl
-mark_at (a ∷ b ∷ []) = refl
-mark_at (a ∷ b ∷ c ∷ s) = refl
-
-pub mark_last : (s : List ℕ) → get_or s 0 0 ≡ 0x43 → get_or s 1 0 ≡ 0x43 → eqb (get_or s 2 0) 0x53 ≡ is_mark (take 3 s)
-mark_last s p q = rw (mark_at, eq-eqb _ _ p, eq-eqb _ _ q)
 
 -- what a refusal's number says of the outcome that it stands for
 pub went_on : (s : List ℕ) (next : ℕ) {refusal : ℕ} {o : Outcome Unit} → number_read s next refusal ≡ o → refusal ≡ 0 → o ≡ read tt (drop next s)

@@ -2,26 +2,13 @@
 use Rattle.std.proofs.Common.{arith}
 use Rattle.std.proofs.lemmas.Slice.{between_to_end}
 use Rattle.refusal.proofs.Numbers.{passed_on}
-use Rattle.bench_file.proofs.Passes.{begins, passes, refuses, ends}
+use Rattle.bench_file.proofs.Passes.{passes, refuses, ends}
 use Rattle.bench_file.proofs.read_several.Goals as goal
-
-pub loop-init : goal.loop-init
-loop-init g c = begins _ _ _
-
-pub slice_bounds-read-count : goal.slice_bounds-read-count
-slice_bounds-read-count g c = c.loop.invariant.ahead.1
 
 pub returns-in_err-more-clause-result_value : goal.returns-in_err-more-clause-result_value
 returns-in_err-more-clause-result_value g c reader reads =
     rw (passed_on c.from_residual.result c.from_residual.ensures)
     (refuses _ _ _ c.loop.invariant c.loop-test.true (between_to_end c.args.s.now c.loop.next _ (omega arith)) c.read.ensures c.in_err-more.was reader reads)
-
-pub overflow_add-done : goal.overflow_add-done
-overflow_add-done g c =
-    let next =
-    passes _ _ _ c.loop.invariant c.loop-test.true (between_to_end c.args.s.now c.loop.next _ (omega arith)) c.read.ensures c.in_ok-more.was
-    (c.requires.goes_ahead _ _ c.read.ensures) in
-    omega (arith, next.ahead)
 
 pub loop-preserved : goal.loop-preserved
 loop-preserved g c =
@@ -30,6 +17,3 @@ loop-preserved g c =
 
 pub returns-clause-result_value : goal.returns-clause-result_value
 returns-clause-result_value g c reader reads = ends _ _ _ c.loop.invariant c.loop-test.false reader reads
-
-pub returns-clause-ahead : goal.returns-clause-ahead
-returns-clause-ahead g c = c.loop.invariant.ahead
