@@ -82,7 +82,8 @@ fn from_start(schedule: &[u8], start: State) -> Result<Played, Refusal>
             answer = applied.answer;
             state.object = object_after;
         }
-        // No line of CC-Synch is refused in a run; one of DSM-Synch is where it meets null.
+        // By the state's method, and not by `methods::run_line`: no line of CC-Synch is refused in a run, and its tests for 14 would cost a tenth of the time; one of
+        // DSM-Synch is where it meets null.
         let effect = match method {
             Method::CcSynch => cc_synch::executed(line, named, node, tail, h, request, answer),
             Method::DsmSynch => {
