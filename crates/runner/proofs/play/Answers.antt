@@ -1,10 +1,8 @@
 -- A file that is not refused is loaded, and its run starts from the machine that was made. Assumes nothing.
-use Rattle.std.proofs.Common.{◌≡◌, List, ℕ, ◌∙◌, get_or, ◌<◌, arith, Ok}
+use Rattle.std.proofs.Common.{◌∙◌, arith}
 use Rattle.std.proofs.lemmas.Result.{err_from_is_err_and}
 use Rattle.bench_file.specs.Layout.{judge_of}
 use Rattle.bench_file.proofs.Each.{each_at}
-use Rattle.loader.specs.declared.Loaded.{Loaded}
-use Rattle.loader.specs.Load.{loaded_as}
 use Rattle.runner.proofs.Playing.{Ready, ready, refused_plays, enough}
 use Rattle.runner.proofs.play.Goals.{In_ok-loaded}
 use Rattle.runner.proofs.play.Goals as goal
