@@ -1,9 +1,15 @@
--- The bytes that std makes of a number, the lowest first, are the paper's. Assumes nothing.
+-- The bytes that std makes of a test and of a number, the lowest first, are the paper's. Assumes nothing.
 use Prim.Native.Nat.{ℕ, ◌/◌, ◌%◌}
 use native.Mathlib.Omega.{arith}
 use mathlib.Core.Path.{◌≡◌, refl}
-use Rattle.std.specs.Int.{to_le_bytes, w16, w32}
+use mathlib.Core.Bool.{Bool, true, false}
+use Rattle.std.specs.Int.{from_bool, to_le_bytes, w16, w32}
 use Rattle.bench_file.specs.Bytes.{low_first}
+use Rattle.step.specs.Entry.{one_if}
+
+pub one_or_none : (test : Bool) → from_bool test ≡ one_if test
+one_or_none true = refl
+one_or_none false = refl
 
 pub four_bytes : (number : ℕ) → to_le_bytes w32 number ≡ low_first 4 number
 unfolding low_first

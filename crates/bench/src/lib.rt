@@ -1,10 +1,9 @@
 // Runs a bench file: its counts and the records of its calls, in Swap order, in a lent buffer.
 #![tactic(auto)]
 
-ghost use Rattle.std.specs.Prelude.{ℕ, ◌*◌, ◌≤◌, ◌<◌, ◌≡◌, length, get_or, eqb, not};
+ghost use Rattle.std.specs.Prelude.{ℕ, ◌*◌, ◌≤◌, ◌<◌, ◌≡◌, length, get_or};
 ghost use Rattle.machine.specs.Sizes.{most_calls};
-ghost use Rattle.step.specs.Entry.{one_if};
-ghost use Rattle.history.specs.Terms.{record_length, no_entry};
+ghost use Rattle.history.specs.Terms.{record_length};
 ghost use Rattle.kept.specs.Kept.{call_at};
 ghost use Rattle.bench.specs.Answer.{as_run};
 ghost use Rattle.bench.specs.Promise.{Runs};
@@ -19,13 +18,6 @@ use state::Counts;
 // So many bytes hold the records of every file.
 pub const ENOUGH_FOR_RECORDS: usize = kept::RECORD_LENGTH * machine::CALLS;
 
-// Byte 12 of a record: whether the call has an entry for its return.
-fn state_byte(returned: u32) -> u8
-    ensures { result ≡ one_if (not (eqb returned no_entry)) }
-{
-    if returned == kept::NO_ENTRY { 0 } else { 1 }
-}
-
 // The record of the call that has a place.
 fn record_bytes(place: u16, kept: Kept) -> [u8; kept::RECORD_LENGTH]
     requires { place < most_calls }
@@ -38,7 +30,7 @@ fn record_bytes(place: u16, kept: Kept) -> [u8; kept::RECORD_LENGTH]
     record[3] = kept.server;
     record[4..8].copy_from_slice(&kept.value.to_le_bytes());
     record[8..12].copy_from_slice(&kept.remote.to_le_bytes());
-    record[12] = state_byte(kept.returned);
+    record[12] = u8::from(kept.returned != kept::NO_ENTRY);
     record[13..15].copy_from_slice(&kept.turn.to_le_bytes());
     record[16..20].copy_from_slice(&kept.began.to_le_bytes());
     record[20..24].copy_from_slice(&kept.returned.to_le_bytes());

@@ -1,13 +1,15 @@
 -- What a run keeps of each call while it goes, and where: a call has one of 256 numbers, 16 for each thread.
-use Rattle.std.specs.Prelude.{ℕ, ◌+◌, ◌*◌, ◌/◌, ◌%◌, ◌^◌, Bool, cond, List, Some}
+use Rattle.std.specs.Prelude.{ℕ, ◌+◌, ◌*◌, ◌/◌, ◌%◌, ◌^◌, Bool, cond, List, Some, replicate}
 use Rattle.object.specs.declared.Answer.{Answer}
 use Rattle.machine.specs.declared.ThreadId.{ThreadId}
 use Rattle.machine.specs.declared.Event.{Event}
 use Rattle.machine.specs.declared.Event.TheVariants.{CallBegins, Returns}
 use Rattle.machine.specs.Events.{same_event}
+use Rattle.machine.specs.Sizes.{most_calls, most_nodes}
 use Rattle.history.specs.Entries.{Entry, thread_id}
-use Rattle.history.specs.Terms.{Call, servings, cost_of, no_entry, began_at, returned_at, shown_of, Shown, unshown, ret_mark, ret_value}
+use Rattle.history.specs.Terms.{Call, no_call, no_turn, servings, cost_of, no_entry, began_at, returned_at, shown_of, Shown, unshown, ret_mark, ret_value}
 use Rattle.kept.specs.declared.Kept.{Kept}
+use Rattle.kept.specs.declared.Notes.{Notes}
 
 -- the place of a call, and the call of a place
 abbrev pub place_of : Call → ℕ
@@ -54,3 +56,7 @@ after_serving k serves answer server turn =
     cond serves
     (kept_by (record { ret = Some answer; server = server; turn = turn }) k.remote k.began k.returned)
     k
+
+-- what is noted before the first entry
+abbrev pub no_notes : Notes
+no_notes = record { turns = replicate 16 no_turn; given = replicate most_nodes (place_of no_call); order = replicate most_calls 0 }

@@ -3,7 +3,7 @@
 
 ghost use Rattle.std.specs.Prelude.{◌≡◌, ◌%◌, true, if◌then◌else◌, slice_index, slice_set};
 ghost use Rattle.machine.specs.Events.{same_event};
-ghost use Rattle.kept.specs.Kept.{unkept, after_entry, after_serving};
+ghost use Rattle.kept.specs.Kept.{unkept, after_entry, after_serving, no_notes};
 
 use machine::{Event, NodeId, ThreadId};
 use object::Answer;
@@ -84,17 +84,6 @@ pub fn after_serving(kept: Kept, answer: Answer, server: ThreadId, turn: u16) ->
     }
 }
 
-// The place of the call that a node is given to; past the nodes, where no node is given, 0.
-pub fn given_at(given: &[u16], node: NodeId) -> u16
-    ensures { result ≡ slice_index given.now node.0 }
-{
-    let m = node.0 as usize;
-    if m < given.len() {
-        return given[m];
-    }
-    0
-}
-
 // Notes a number at a place; past the end nothing is noted, as `set` has it.
 fn note(numbers: &mut [u16], at: usize, number: usize)
     ensures { numbers.new ≡ slice_set numbers.old at (number % 65536) }
@@ -104,27 +93,58 @@ fn note(numbers: &mut [u16], at: usize, number: usize)
     }
 }
 
-// What an entry notes: the beginning of a turn its thread's turn, numbered by those begun before; a Swap the place of its call, with the node that it
-// assigns to the call and next in Swap order.
-pub fn note_entry(
-    turns: &mut [u16; 16],
-    given: &mut [u16; machine::NODES],
-    order: &mut [u16; machine::CALLS],
-    event: Event,
-    thread: ThreadId,
-    node: NodeId,
-    counts: Counts,
-    place: usize,
-)
-    ensures turns_after { turns.new ≡ (if same_event event Event.TurnBegins then slice_set turns.old thread.0 (counts.turns % 65536) else turns.old) }
-    ensures given_after { given.new ≡ (if same_event event Event.Swaps then slice_set given.old node.0 (place % 65536) else given.old) }
-    ensures order_after { order.new ≡ (if same_event event Event.Swaps then slice_set order.old counts.records (place % 65536) else order.old) }
-{
-    if event == Event::TurnBegins {
-        note(turns, thread.0 as usize, counts.turns as usize);
+// What a run notes beside what it keeps of its calls, each by a number of its own: the turn of a thread, the call that a node is given to, and the calls' places in
+// Swap order. All of it has a fixed size.
+#[derive(Clone, Copy)]
+pub struct Notes {
+    pub turns: [u16; 16],
+    pub given: [u16; machine::NODES],
+    pub order: [u16; machine::CALLS],
+}
+
+impl Notes {
+    // Before the first entry.
+    pub fn none() -> Notes
+        ensures { result ≡ no_notes }
+    {
+        Notes {
+            turns: [NO_TURN; 16],
+            given: [NO_CALL; machine::NODES],
+            order: [0u16; machine::CALLS],
+        }
     }
-    if event == Event::Swaps {
-        note(given, node.0 as usize, place);
-        note(order, counts.records as usize, place);
+
+    // The place of the call that a node is given to; past the nodes, where no node is given, 0.
+    pub fn given_at(&self, node: NodeId) -> u16
+        ensures { result ≡ slice_index self.now.given node.0 }
+    {
+        let m = node.0 as usize;
+        if m < machine::NODES {
+            return self.given[m];
+        }
+        0
+    }
+
+    // What an entry notes: the beginning of a turn its thread's turn, numbered by those begun before; a Swap the place of its call, with the node that it
+    // assigns to the call and next in Swap order.
+    pub fn note_entry(
+        &mut self,
+        event: Event,
+        thread: ThreadId,
+        node: NodeId,
+        counts: Counts,
+        place: usize,
+    )
+        ensures turns_after { self.new.turns ≡ (if same_event event Event.TurnBegins then slice_set self.old.turns thread.0 (counts.turns % 65536) else self.old.turns) }
+        ensures given_after { self.new.given ≡ (if same_event event Event.Swaps then slice_set self.old.given node.0 (place % 65536) else self.old.given) }
+        ensures order_after { self.new.order ≡ (if same_event event Event.Swaps then slice_set self.old.order counts.records (place % 65536) else self.old.order) }
+    {
+        if event == Event::TurnBegins {
+            note(&mut self.turns, thread.0 as usize, counts.turns as usize);
+        }
+        if event == Event::Swaps {
+            note(&mut self.given, node.0 as usize, place);
+            note(&mut self.order, counts.records as usize, place);
+        }
     }
 }

@@ -5,7 +5,7 @@ ghost use Rattle.std.specs.Prelude.{◌≡◌};
 ghost use Rattle.bench_file.specs.Layout.{judge_of};
 ghost use Rattle.runner.specs.Played.{Startable, played_from, played_in, as_played};
 
-use kept::Kept;
+use kept::{Kept, Notes};
 use machine::{Event, Method, ThreadId};
 use object::Answer;
 use refusal::Refusal;
@@ -33,9 +33,7 @@ fn from_start(schedule: &[u8], start: State) -> Result<Played, Refusal>
     let capacity = start.capacity;
     let mut state = start;
     let mut kept = [kept::unkept(); machine::CALLS];
-    let mut order = [0u16; machine::CALLS];
-    let mut given = [kept::NO_CALL; machine::NODES];
-    let mut turns = [kept::NO_TURN; 16];
+    let mut notes = Notes::none();
     for (i, &entry) in schedule.iter().enumerate() {
         let thread = ThreadId(entry);
         let t = thread.0 as usize;
@@ -84,7 +82,8 @@ fn from_start(schedule: &[u8], start: State) -> Result<Played, Refusal>
             answer = given;
             state.object = object_after;
         }
-        // No line of CC-Synch is refused in a run; one of DSM-Synch is where it meets null.
+        // By the state's method, and not by `methods::run_line`: no line of CC-Synch is refused in a run, and its tests for 14 would cost a tenth of the time; one of
+        // DSM-Synch is where it meets null.
         let effect = match method {
             Method::CcSynch => {
                 Ok(cc_synch::executed(line, named, node, tail, h, request, answer))
@@ -126,20 +125,18 @@ fn from_start(schedule: &[u8], start: State) -> Result<Played, Refusal>
         let mine = kept[call];
         kept[call] = kept::after_entry(mine, event, remote, i as u32);
         if applies {
-            let turn = turns[t];
-            let served = kept::given_at(&given, points) as usize;
+            let turn = notes.turns[t];
+            let served = notes.given_at(points) as usize;
             let theirs = kept[served];
             kept[served] = kept::after_serving(theirs, answer, thread, turn);
         }
         let assigned = methods::assigned(method, tail, named.my);
-        kept::note_entry(
-            &mut turns, &mut given, &mut order, event, thread, assigned, counts, call,
-        );
+        notes.note_entry(event, thread, assigned, counts, call);
     }
     Ok(Played {
         counts: state.counts,
         kept,
-        order,
+        order: notes.order,
     })
 }
 

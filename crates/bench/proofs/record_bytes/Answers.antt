@@ -1,5 +1,7 @@
 -- The bytes of a record, field by field. Assumes nothing.
-use Rattle.bench.proofs.Spelled.{four_bytes, two_bytes}
+use Rattle.std.proofs.Common.{not, eqb, ◌∙◌}
+use Rattle.history.specs.Terms.{no_entry}
+use Rattle.bench.proofs.Spelled.{one_or_none, four_bytes, two_bytes}
 use Rattle.bench.proofs.record_bytes.Goals as goal
 
 pub returns : goal.returns
@@ -16,7 +18,7 @@ returns c =
       c.to_le_bytes-3.ensures,
       c.to_le_bytes-4.ensures,
       c.to_le_bytes-5.ensures,
-      c.state_byte.ensures,
+      c.from.ensures ∙ one_or_none (not (eqb k.returned no_entry)),
       ← four_bytes k.value,
       ← four_bytes k.remote,
       ← two_bytes k.turn,

@@ -222,7 +222,7 @@ their_small c =
     let all = (goal.at.bounds-kept-served c).After-call_place-call in
     let now = c.loop-i.invariant in
     let at = c.loop-i-test.true in
-    let chosen : Bool → ℕ = λ serves. cond serves (get_or c.loop-i.given c.pointed-points.result.0 0) c.call_place-call.result in
+    let chosen : Bool → ℕ = λ serves. cond serves (get_or c.loop-i.notes.given c.pointed-points.result.0 0) c.call_place-call.result in
     let is = is_served _ _ _ now.fits now.running at (called all) refl c.call_place-call.ensures (c.eq-applies.ensures ∙ events_equal _ Applies) (c.given_at-served.ensures ∙ sym (ap chosen c.if-applies-2.true)) in
     omega (arith, is, their_below _ _ _ now.fits now.running at (fine _ _ _ now.fits now.running at (called all) refl))
 
@@ -271,14 +271,14 @@ stored c =
 
 -- the calls after the entry: its own, and the one that it serves, if it does
 kept_is : (c : After-note_entry)
-    → Stored (set c.loop-i.kept c.call_place-call.result c.after_entry.result) zero_kept (get_or c.loop-i.given c.pointed-points.result.0 0) c.call_place-call.result c.if-applies.answer (thread_id (get_or c.args.schedule.now c.loop-i.i 0)) (get_or c.loop-i.turns (get_or c.args.schedule.now c.loop-i.i 0) 0) c.eq-applies.result c.if-applies-2.kept
+    → Stored (set c.loop-i.kept c.call_place-call.result c.after_entry.result) zero_kept (get_or c.loop-i.notes.given c.pointed-points.result.0 0) c.call_place-call.result c.if-applies.answer (thread_id (get_or c.args.schedule.now c.loop-i.i 0)) (get_or c.loop-i.notes.turns (get_or c.args.schedule.now c.loop-i.i 0) 0) c.eq-applies.result c.if-applies-2.kept
 kept_is c =
     let calls = set c.loop-i.kept c.call_place-call.result c.after_entry.result in
-    let g = get_or c.loop-i.given c.pointed-points.result.0 0 in
+    let g = get_or c.loop-i.notes.given c.pointed-points.result.0 0 in
     let own = c.call_place-call.result in
     let answer = c.if-applies.answer in
     let t = thread_id (get_or c.args.schedule.now c.loop-i.i 0) in
-    let turn = get_or c.loop-i.turns t.0 0 in
+    let turn = get_or c.loop-i.notes.turns t.0 0 in
     let applies = c.eq-applies.result in
     let served : ℕ → Kept = λ i. after_serving (get_or calls i zero_kept) true answer t turn in
     elim c.if-applies-2.branch [
@@ -289,7 +289,7 @@ kept_is c =
     ]
 
 pub loop-i-init : goal.loop-i-init
-loop-i-init c = looping_start c.all_rows-rows.ensures c.spin_line-spin_line.ensures (ap (replicate most_calls) c.unkept-kept.ensures) c.requires
+loop-i-init c = rw c.none-notes.ensures (looping_start c.all_rows-rows.ensures c.spin_line-spin_line.ensures (ap (replicate most_calls) c.unkept-kept.ensures) c.requires)
 
 pub bounds-state-spun : goal.bounds-state-spun
 bounds-state-spun c = waited_below (goal.at.bounds-state-spun c).After-spin_node-waited

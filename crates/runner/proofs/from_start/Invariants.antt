@@ -4,4 +4,4 @@ use Rattle.runner.proofs.from_start.Given as goal
 
 abbrev pub invariant-loop-i : goal.invariant-loop-i
 invariant-loop-i l =
-    Looping l.schedule l.fn.start l.method l.rows l.spin_line l.n l.h l.kind l.capacity l.i l.state l.kept l.order l.given l.turns
+    Looping l.schedule l.fn.start l.method l.rows l.spin_line l.n l.h l.kind l.capacity l.i l.state l.kept l.notes.order l.notes.given l.notes.turns
