@@ -40,8 +40,7 @@ const LINES: [PrintedLine; 21] = [
 pub fn following(line: u8, node: Node, served: u8, h: u8) -> u8
     ensures { result ≡ following node served h (line_of line) }
 {
-    let next = node.next;
-    let linked = next.0 != machine::NULL;
+    let linked = !machine::is_null(node.next);
     match line {
         0 => 0, // a blank
         1 => 2,

@@ -57,11 +57,9 @@ pub fn following(
 ) -> u8
     ensures { result ≡ following node behind pred emptied served h (line_of line) }
 {
-    let next = node.next;
-    let next_behind = behind.next;
-    let no_pred = pred.0 == machine::NULL;
-    let no_next = next.0 == machine::NULL;
-    let none_behind = next_behind.0 == machine::NULL;
+    let no_pred = machine::is_null(pred);
+    let no_next = machine::is_null(node.next);
+    let none_behind = machine::is_null(behind.next);
     let ends = no_next | (none_behind | (h <= served));
     match line {
         0 => 0, // a blank

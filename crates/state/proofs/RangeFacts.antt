@@ -21,7 +21,7 @@ use Rattle.machine.specs.Methods.{last_line, last_node, tail_nullable}
 use Rattle.machine.specs.Sizes.{most_nodes}
 use Rattle.state.specs.declared.Counts.{Counts}
 use Rattle.state.specs.declared.State.{State}
-use Rattle.state.specs.Range.{pointer_in_range, line_in_range, pointers_in_range, thread_in_range, req_in_range, ret_in_range, node_in_range, rows_in_range, head_in_range, counts_in_range, in_range_by}
+use Rattle.state.specs.Range.{pointer_in_range, line_in_range, pointers_in_range, thread_in_range, req_in_range, ret_in_range, node_in_range, rows_in_range, counts_in_range, in_range_by}
 
 -- a node, or null
 pub data NodeOrNull (n m : ℕ) : Type 0 where
@@ -141,11 +141,7 @@ node_iff kind capacity n x = (to, λ f. simp range_facts (search f))
     to : node_in_range kind capacity n x ≡ true → NodeFits kind capacity n x
     to e = let p = simp range_facts at e in search p
 
--- there are 1 to 16 threads
-pub few_threads : (s : State) → head_in_range s ≡ true → (0 < s.n) × (s.n ≤ 16)
-few_threads s e = let p = simp range_facts at e in search p
-
--- and room for their nodes
+-- there is room for the nodes of 1 to 16 threads
 pub nodes_held : (m : Method) (n : ℕ) → 0 < n → n ≤ 16 → last_node m n < most_nodes
 nodes_held CcSynch n some few = omega arith
 nodes_held DsmSynch n some few = omega arith

@@ -59,6 +59,7 @@ fn tail_nullable(method: Method) -> bool
     method == Method::DsmSynch
 }
 
+// Each test takes the limits that it judges by, of five: the method, its last node, h, kind and capacity. A struct of them would hand every test all five.
 fn pointer_in_range(last: u8, nullable: bool, node: NodeId) -> bool
     ensures { result ≡ pointer_in_range last nullable node }
 {

@@ -1,8 +1,7 @@
 -- What the calls for an entry answer, in `enter` and in a run, by either method, one equation for each, makes the state after it, and in `enter` the outcome; and the
 -- order in which `step` judges. Assumes what the modules' parameters say.
-use Rattle.std.proofs.Common.{◌≡◌, ℕ, ◌+◌, ◌-◌, ◌*◌, ◌<◌, ◌≤◌, Bool, true, false, cond, not, ◌&&◌, eqb, List, get_or, set, sym, refl, ap, ◌∙◌, mod-eq_of_lt, arith, le-leb}
+use Rattle.std.proofs.Common.{◌≡◌, ℕ, ◌+◌, ◌-◌, ◌*◌, ◌<◌, ◌≤◌, Bool, true, false, cond, not, ◌&&◌, eqb, List, get_or, set, sym, refl, ap, ◌∙◌, mod-eq_of_lt, arith}
 use lib.Seq.{set-get_or}
-use borrow.Author.Tests.{lt-leb}
 use Rattle.object.specs.declared.Object.{Object}
 use Rattle.object.specs.declared.Request.{Request}
 use Rattle.object.specs.declared.Answer.{Answer}
@@ -30,7 +29,7 @@ use Rattle.state.specs.Shape.{Shaped}
 use Rattle.state.proofs.RangeFacts.{ThreadFits, state_fits, counts_iff}
 use Rattle.step.specs.Entry.{zero_node, zero_slot, applied_at, more_of, plus, wrapped, named, line, request}
 use Rattle.step.specs.ByMethod.{points_to_by, node_by, behind_by, written_by, event_by, applied_by, effect_by, accesses_by, references_by, counts_after_by, entered_by, out_by}
-use Rattle.step.specs.Step.{Stepped, refused, outcome_by, step_of}
+use Rattle.step.specs.Step.{Stepped, refused, outcome_by}
 use Rattle.step.proofs.Outcome.{thread_fits, begun_few, goes_through_exactly}
 use Rattle.step.proofs.Rows.{row_points, row_accesses, row_writes_lem, row_event, HasNodes, row_leaves, goes_through, refused_out, refused_14}
 
@@ -183,14 +182,3 @@ module _ (m : Method) (s : State) (t : ThreadId) (shape : Shaped s) (fits : in_r
     accepted h f eo en ep =
         let g = through (rw is_answer at h) in
         rw (eo, entered_by_lem (is_answer ∙ g.1) en ep) (sym (by_outcome g.0 (ap counts_in_range (sym sums) ∙ f)))
-
--- the order of the step: the state, the entry, the outcome
-module _ (s : State) (t : ThreadId) where
-  pub state_refused : in_range_by s.method s ≡ false → refused 14 s ≡ step_of s t
-  state_refused e = rw e
-
-  pub entry_refused : in_range_by s.method s ≡ true → s.n ≤ t.0 → refused 11 s ≡ step_of s t
-  entry_refused e h = rw (e, le-leb s.n t.0 h)
-
-  pub steps_on : in_range_by s.method s ≡ true → t.0 < s.n → outcome_by s.method s t ≡ step_of s t
-  steps_on e h = rw (e, lt-leb s.n t.0 h)
