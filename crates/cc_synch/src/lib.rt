@@ -11,7 +11,7 @@ use object::{Answer, Request};
 use refusal::Refusal;
 
 // Algorithm 1, one printed line, by its statement: what it makes of its thread, `th`, of the node that it points to, `x`, and of Tail, `to`. The thread goes on
-// to the line `on`. `own` is node_i, and nextNode until line 8.
+// to the line `on`. `own` is node_i, and nextNode until line 8. A line that only tests or returns has its arm too, to be read beside the printed one.
 fn line_does(
     line: u8,
     on: u8,

@@ -12,7 +12,8 @@ use object::{Answer, Request};
 use refusal::Refusal;
 
 // Algorithm 2, one printed line, by its statement: what it makes of its thread, `th`, of the node that it writes, `x`, and of Tail, `to`. The thread goes on to
-// the line `on`. The node written is the one behind at line 26, else the one that the line points to.
+// the line `on`. The node written is the one behind at line 26, else the one that the line points to. A line that only tests or returns has its arm too, to be read
+// beside the printed one.
 fn line_does(
     line: u8,
     on: u8,

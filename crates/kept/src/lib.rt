@@ -27,6 +27,8 @@ pub const RECORD_LENGTH: usize = 24;
 // The place of no call: that of request 255 of thread 255.
 pub const NO_CALL: u16 = 16 * 255 + 255;
 
+// The numbers below are the record's own: `Kept` is what a run keeps for the record's bytes, where an Option would be turned into these numbers again.
+
 // No thread: the server of a call that is not served.
 pub const NO_THREAD: u8 = 255;
 
@@ -51,21 +53,18 @@ pub fn unkept() -> Kept
     }
 }
 
-// The number of an entry that is the event asked for, else the number as it was.
-fn numbered(is: bool, number: u32, before: u32) -> u32
-    ensures { result ≡ (if is then number else before) }
-{
-    if is { number } else { before }
-}
-
 // The entry's call: its remote references, and the numbers of the entries that it begins and returns with.
 pub fn after_entry(kept: Kept, event: Event, remote: u8, number: u32) -> Kept
     ensures { result ≡ after_entry kept event remote number }
 {
     let mut after = kept;
-    after.remote = std::num::wrapping_add_u32(kept.remote, remote as u32);
-    after.began = numbered(event == Event::CallBegins, number, kept.began);
-    after.returned = numbered(event == Event::Returns, number, kept.returned);
+    after.remote = kept.remote.wrapping_add(u32::from(remote));
+    if event == Event::CallBegins {
+        after.began = number;
+    }
+    if event == Event::Returns {
+        after.returned = number;
+    }
     after
 }
 
@@ -77,14 +76,12 @@ pub fn after_serving(kept: Kept, answer: Answer, server: ThreadId, turn: u16) ->
         mark: object::answer_mark(answer),
         server: server.0,
         value: object::answer_value(answer),
-        remote: kept.remote,
         turn,
-        began: kept.began,
-        returned: kept.returned,
+        ..kept
     }
 }
 
-// Notes a number at a place; past the end nothing is noted, as `set` has it.
+// Notes a number at a place; past the end nothing is noted, as `set` has it. By index: of a write through `get_mut` a proof knows the length alone.
 fn note(numbers: &mut [u16], at: usize, number: usize)
     ensures { numbers.new ≡ slice_set numbers.old at (number % 65536) }
 {
@@ -118,11 +115,7 @@ impl Notes {
     pub fn given_at(&self, node: NodeId) -> u16
         ensures { result ≡ slice_index self.now.given node.0 }
     {
-        let m = node.0 as usize;
-        if m < machine::NODES {
-            return self.given[m];
-        }
-        0
+        self.given.get(node.0 as usize).copied().unwrap_or(0)
     }
 
     // What an entry notes: the beginning of a turn its thread's turn, numbered by those begun before; a Swap the place of its call, with the node that it

@@ -1,4 +1,5 @@
-// What goes by a machine's method: a line's row, what a line does, the node that a Swap assigns, and where a thread waits.
+// What goes by a machine's method: a line's row, what a line does, the node that a Swap assigns, and where a thread waits. The method is a number of a file or of
+// a state, known when it is run, so each function here asks it by `match`, and there is no trait with two types.
 #![tactic(auto)]
 
 ghost use Rattle.std.specs.Prelude.{◌≡◌, map};
@@ -20,7 +21,8 @@ pub fn row_of(method: Method, line: u8) -> Row
     }
 }
 
-// The rows of all lines in one array, the blank's at 0, made once for a run.
+// The rows of all lines in one array, the blank's at 0, made once for a run. By `for`: of `array::from_fn` a proof would have to follow what each call leaves the
+// closure with.
 pub fn all_rows(method: Method) -> [Row; 29]
     ensures { result ≡ map (row_by method) (up_from 0 29) }
 {

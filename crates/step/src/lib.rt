@@ -169,7 +169,7 @@ fn enter(state: State, thread: ThreadId) -> Result<State, Refusal>
 pub fn step(state: State, thread: ThreadId) -> Result<State, Refusal>
     ensures { as_stepped state result ≡ step_of state thread }
 {
-    if !state::in_range(state) {
+    if !state::in_range(&state) {
         return Err(Refusal::OutOfRange);
     }
     if state.n <= thread.0 {
