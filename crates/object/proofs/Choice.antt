@@ -23,7 +23,7 @@ pub by_test : {P : Type 0} (b : Bool) → (b ≡ true → P) → (b ≡ false �
 by_test true on off = on refl
 by_test false on off = off refl
 
--- what holds of both of two values holds of the one that a test takes
+-- what holds of both of two values holds of the one that a test takes: the library's `cond_both`, which would have the two values written out at each use
 pub either : {A : Type 0} (P : A → Type 0) {a b : A} (t : Bool) → (t ≡ true → P a) → (t ≡ false → P b) → P (cond t a b)
 either P true on off = on refl
 either P false on off = off refl

@@ -99,6 +99,7 @@ pub fn request_of(code: u8, value: u32) -> Request
     }
 }
 
+// A request's two numbers, each by its name, since no `From` says which of them it gives; an answer's are told so too.
 pub fn request_code(request: Request) -> u8
     ensures { result ≡ request_code request }
 {
@@ -292,7 +293,7 @@ pub fn knows(kind: Kind, request: Request) -> bool
     code_known(kind, request_code(request))
 }
 
-// A request to an object in range.
+// A request to an object in range. One match of kind and request together has no rule of the borrow checker, so what the kind knows is tested first.
 fn applied_to(
     kind: Kind,
     capacity: u8,
