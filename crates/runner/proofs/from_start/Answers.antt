@@ -112,10 +112,10 @@ module _ {bytes : List ℕ} {start : State} {m : Method} {rows : List Row} {spin
 
   module _ {k c : ℕ} {r : Row} {p : NodeId} {x : Node} {ev : Event} (read : Read m s t k r p x ev c) where
     -- the branch for an entry that applies, and that for any other
-    serves_it : {J : State} {answer : Answer} {r : Result (Answer × Object) Refusal} {given : Answer × Object} {b : Bool} → b ≡ same_event ev Applies → b ≡ true
+    serves_it : {J : State} {answer : Answer} {given : Answer × Object} {b : Bool} (r : Result (Answer × Object) Refusal) → b ≡ same_event ev Applies → b ≡ true
         → as_applied s.object r ≡ served_by kind capacity s.object x.req → given ≡ result_unwrap_or r (Empty, s.object)
         → answer ≡ given.0 → J ≡ changed s given.1 s.nodes s.counts → Serves s J answer (applied_at ev s.kind s.capacity s.object x.req)
-    serves_it {J} {answer} {r} e q ob u a j =
+    serves_it {J} {answer} r e q ob u a j =
         serves_one s J answer ev x.req (sym e ∙ q) (ob ∙ ap₂ (λ (kind : Kind) (capacity : ℕ). served_by kind capacity s.object x.req) now.object now.room)
         (a ∙ ap (λ (g : Answer × Object). g.0) u ∙ taken_answer s.object r)
         (j ∙ ap (λ (g : Answer × Object). changed s g.1 s.nodes s.counts) u ∙ ap (λ (o : Object). changed s o s.nodes s.counts) (taken_object s.object r))
@@ -169,7 +169,7 @@ serves : (c : After-call_place-call)
     → Serves c.loop-i.state c.if-applies.state c.if-applies.answer (applied_at c.event_in-event.result c.loop-i.state.kind c.loop-i.state.capacity c.loop-i.state.object c.if-m-lt-NODES.node.req)
 serves c =
     elim c.if-applies.branch [
-      | then-applies w ↦ serves_it c.loop-i.invariant c.loop-i-test.true (read_of c) (c.eq-applies.ensures ∙ events_equal _ Applies) w.if-applies.true w.served_by-applied.ensures w.unwrap_or-given.ensures w.answer-is w.state-is
+      | then-applies w ↦ serves_it c.loop-i.invariant c.loop-i-test.true (read_of c) w.served_by-applied.result (c.eq-applies.ensures ∙ events_equal _ Applies) w.if-applies.true w.served_by-applied.ensures w.unwrap_or-given.ensures w.answer-is w.state-is
       | else-applies w ↦ serves_none _ _ _ _ _ (sym (c.eq-applies.ensures ∙ events_equal _ Applies) ∙ w.if-applies.false) w.answer-is w.state-is
     ]
 
@@ -330,7 +330,7 @@ returns-in_err-done c =
     let seen = read (goal.at.returns-in_err-done c).After-call_place-place in
     let served : Serves s c.if-applies.state c.if-applies.answer (applied_at c.event_in-event.result s.kind s.capacity s.object c.if-m-lt-NODES.node.req) =
     elim c.if-applies.branch [
-      | then-applies w ↦ serves_it now at seen (c.eq-applies.ensures ∙ events_equal _ Applies) w.if-applies.true w.served_by-applied.ensures w.unwrap_or-given.ensures w.answer-is w.state-is
+      | then-applies w ↦ serves_it now at seen w.served_by-applied.result (c.eq-applies.ensures ∙ events_equal _ Applies) w.if-applies.true w.served_by-applied.ensures w.unwrap_or-given.ensures w.answer-is w.state-is
       | else-applies w ↦ serves_none _ _ _ _ _ (sym (c.eq-applies.ensures ∙ events_equal _ Applies) ∙ w.if-applies.false) w.answer-is w.state-is
     ] in
     let says : Result After Refusal → Effect = said s (thread_id (get_or c.args.schedule.now c.loop-i.i 0)) c.if-m-lt-NODES.node in
