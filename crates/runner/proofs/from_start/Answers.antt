@@ -169,7 +169,7 @@ serves : (c : After-call_place-call)
     → Serves c.loop-i.state c.if-applies.state c.if-applies.answer (applied_at c.event_in-event.result c.loop-i.state.kind c.loop-i.state.capacity c.loop-i.state.object c.if-m-lt-NODES.node.req)
 serves c =
     elim c.if-applies.branch [
-      | then-applies w ↦ serves_it c.loop-i.invariant c.loop-i-test.true (read_of c) (c.eq-applies.ensures ∙ events_equal _ Applies) w.if-applies.true w.served_by-applied.ensures w.unwrap_or-given.ensures w.answer-is w.state-is
+      | then-applies w ↦ serves_it c.loop-i.invariant c.loop-i-test.true (read_of c) w.served_by-applied.result (c.eq-applies.ensures ∙ events_equal _ Applies) w.if-applies.true w.served_by-applied.ensures w.unwrap_or-given.ensures w.answer-is w.state-is
       | else-applies w ↦ serves_none _ _ _ _ _ (sym (c.eq-applies.ensures ∙ events_equal _ Applies) ∙ w.if-applies.false) w.answer-is w.state-is
     ]
 
@@ -330,7 +330,7 @@ returns-in_err-done c =
     let seen = read (goal.at.returns-in_err-done c).After-call_place-place in
     let served : Serves s c.if-applies.state c.if-applies.answer (applied_at c.event_in-event.result s.kind s.capacity s.object c.if-m-lt-NODES.node.req) =
     elim c.if-applies.branch [
-      | then-applies w ↦ serves_it now at seen (c.eq-applies.ensures ∙ events_equal _ Applies) w.if-applies.true w.served_by-applied.ensures w.unwrap_or-given.ensures w.answer-is w.state-is
+      | then-applies w ↦ serves_it now at seen w.served_by-applied.result (c.eq-applies.ensures ∙ events_equal _ Applies) w.if-applies.true w.served_by-applied.ensures w.unwrap_or-given.ensures w.answer-is w.state-is
       | else-applies w ↦ serves_none _ _ _ _ _ (sym (c.eq-applies.ensures ∙ events_equal _ Applies) ∙ w.if-applies.false) w.answer-is w.state-is
     ] in
     let says : Result After Refusal → Effect = said s (thread_id (get_or c.args.schedule.now c.loop-i.i 0)) c.if-m-lt-NODES.node in
