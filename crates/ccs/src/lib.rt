@@ -5,11 +5,13 @@ ghost use Rattle.std.specs.Prelude.{◌≡◌};
 ghost use Rattle.bench_file.specs.Promise.{judged_refusal};
 ghost use Rattle.bench_writer.specs.Writer.{given_by, WritesAs};
 ghost use Rattle.bench.specs.Promise.{Runs};
+ghost use Rattle.cells.specs.Promise.{as_printed};
 ghost use Rattle.listing.specs.Promise.{Lists};
 ghost use Rattle.page.specs.Promise.{Prints};
 ghost use Rattle.ccs.specs.Numbers.{judged_numbers, JudgedIn, answer_in, written_in, ConvertsAlike, printed_in};
 
 use bench_file::Judged;
+use refusal::Refusal;
 
 // A judgement's number, 0 for an accepted file.
 fn judged_refusal(judged: Judged) -> u8
@@ -124,14 +126,28 @@ pub extern "C" fn ccs_convert(file: &[u8], wanted: u16, out: &mut [u8], length: 
     written.refusal
 }
 
+// Refusal 0 and the length of what was laid; or a refusal's number, and length 0.
+fn length_or_refusal(answer: Result<usize, Refusal>, length: &mut usize) -> u8
+    ensures { printed_in result length.new ≡ as_printed answer }
+{
+    match answer {
+        Ok(count) => {
+            *length = count;
+            0
+        }
+        Err(refusal) => {
+            *length = 0;
+            refusal.number()
+        }
+    }
+}
+
 // Lists any bytes as a bench file: its listing into a lent buffer, and the length; the length of a refusal, which is 13 alone, is 0.
 #[unsafe(no_mangle)]
 pub extern "C" fn ccs_list(file: &[u8], out: &mut [u8], length: &mut usize) -> u8
     ensures { Lists file.now out.old out.new (printed_in result length.new) }
 {
-    let listed = listing::list(file, out);
-    *length = listed.length;
-    listed.refusal
+    length_or_refusal(listing::list(file, out), length)
 }
 
 // Prints the pages of any bytes as a bench file into a lent buffer, and their length; the length of a refusal, the file's own, 14 or 13, is 0.
@@ -139,7 +155,5 @@ pub extern "C" fn ccs_list(file: &[u8], out: &mut [u8], length: &mut usize) -> u
 pub extern "C" fn ccs_page(file: &[u8], out: &mut [u8], length: &mut usize) -> u8
     ensures { Prints file.now out.old out.new (printed_in result length.new) }
 {
-    let pages = page::page(file, out);
-    *length = pages.length;
-    pages.refusal
+    length_or_refusal(page::page(file, out), length)
 }
