@@ -9,7 +9,7 @@ use Rattle.bench_writer.specs.Writer.{Written}
 use Rattle.bench_writer.specs.Convert.{Converts}
 use Rattle.bench.specs.Answer.{RunAnswer}
 use Rattle.bench.specs.Run.{result_in}
-use Rattle.cells.specs.declared.Printed.{Printed}
+use Rattle.cells.specs.Promise.{Printed}
 
 -- of a file that is accepted: version, object, n, h, capacity, method, requests in all, schedule entries
 abbrev pub judged_numbers : Result Judged ℕ → List ℕ

@@ -6,6 +6,7 @@ ghost use Rattle.refusal.specs.Numbers.{by_number};
 ghost use Rattle.bench_file.specs.Promise.{judged_refusal};
 ghost use Rattle.bench_writer.specs.Writer.{given_by, as_written, WritesAs};
 ghost use Rattle.bench.specs.Promise.{Runs};
+ghost use Rattle.cells.specs.Promise.{as_printed};
 ghost use Rattle.listing.specs.Promise.{Lists};
 ghost use Rattle.page.specs.Promise.{Prints};
 ghost use Rattle.ccs.specs.Numbers.{judged_numbers, JudgedIn, answer_in, written_in, ConvertsAlike, printed_in};
@@ -90,10 +91,11 @@ pub extern "C" fn ccs_run(file: &[u8], out: &mut [u8], numbers: &mut [u32; 5]) -
 }
 
 // Refusal 0 and the length written; or a refusal's number, and length 0.
-fn length_or_refusal(written: Result<usize, Refusal>, length: &mut usize) -> u8
-    ensures { written_in result length.new ≡ as_written written }
+fn length_or_refusal(answer: Result<usize, Refusal>, length: &mut usize) -> u8
+    ensures written { written_in result length.new ≡ as_written answer }
+    ensures printed { printed_in result length.new ≡ as_printed answer }
 {
-    match written {
+    match answer {
         Ok(count) => {
             *length = count;
             0
@@ -151,9 +153,7 @@ pub extern "C" fn ccs_convert(file: &[u8], wanted: u16, out: &mut [u8], length: 
 pub extern "C" fn ccs_list(file: &[u8], out: &mut [u8], length: &mut usize) -> u8
     ensures { Lists file.now out.old out.new (printed_in result length.new) }
 {
-    let listed = listing::list(file, out);
-    *length = listed.length;
-    listed.refusal
+    length_or_refusal(listing::list(file, out), length)
 }
 
 // Prints the pages of any bytes as a bench file into a lent buffer, and their length; the length of a refusal, the file's own, 14 or 13, is 0.
@@ -161,7 +161,5 @@ pub extern "C" fn ccs_list(file: &[u8], out: &mut [u8], length: &mut usize) -> u
 pub extern "C" fn ccs_page(file: &[u8], out: &mut [u8], length: &mut usize) -> u8
     ensures { Prints file.now out.old out.new (printed_in result length.new) }
 {
-    let pages = page::page(file, out);
-    *length = pages.length;
-    pages.refusal
+    length_or_refusal(page::page(file, out), length)
 }

@@ -7,8 +7,7 @@ use lib.ListN.{length, take}
 use Rattle.object.proofs.Choice.{by_test}
 use Rattle.bench_file.specs.Layout.{Judgement, accepted, refused_by, judge_of}
 use Rattle.claims.specs.Entries.{clear_of}
-use Rattle.cells.specs.declared.Printed.{Printed}
-use Rattle.cells.specs.Promise.{refused_as, Gives, refusal_line}
+use Rattle.cells.specs.Promise.{Printed, refused_as, Gives, refusal_line}
 use Rattle.cells.proofs.Giving.{not_refused, stands}
 use Rattle.cells.proofs.Words.{refusal_length}
 use Rattle.page.specs.Pages.{pages_text}
@@ -32,6 +31,9 @@ module _ {bytes old new : List ℕ} {r : Printed} (prints : Prints bytes old new
         (λ met. let is : r ≡ refused_as 14 = prints.answer ∙ rw (judged, met) in rw (is, met))
     own_number (refused_by number) judged = ap refusal_line (ap (λ (a : Printed). a.refusal) (prints.answer ∙ ap (page_answer (length old)) judged))
 
-    pub refusal_output : {mid last : List ℕ} {q : Printed} → enough_for_pages ≤ length mid → Gives (refusal_line r.refusal) mid last q → take q.length last ≡ output_of (judge_of bytes)
-    refusal_output room gives =
-        stands gives (ap (λ (a : Printed). a.refusal) (not_refused gives (omega (arith, refusal_length r.refusal)))) ∙ own_number (judge_of bytes) refl
+    pub refusal_output : {number : ℕ} {mid last : List ℕ} {q : Printed} → number ≡ r.refusal → enough_for_pages ≤ length mid → Gives (refusal_line number) mid last q
+        → take q.length last ≡ output_of (judge_of bytes)
+    refusal_output {number} is room gives =
+        stands gives (ap (λ (a : Printed). a.refusal) (not_refused gives (omega (arith, refusal_length number))))
+        ∙ ap refusal_line is
+        ∙ own_number (judge_of bytes) refl

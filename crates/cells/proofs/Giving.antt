@@ -1,30 +1,28 @@
--- A text that is laid into the lent buffer, or that is too long for it, is given as promised; and what that says of a buffer that is long enough. Assumes nothing.
-use Prim.Native.Nat.{ℕ, ◌≤◌, ◌<◌}
-use native.Mathlib.Nat.{zero-add}
+-- A text that is laid and then given is given as promised; and what that says of a buffer that is long enough. Assumes nothing.
+use Prim.Native.Nat.{ℕ, ◌≤◌}
 use native.Mathlib.Omega.{arith}
 use mathlib.Core.Path.{◌≡◌, refl, ap, ◌∙◌}
-use mathlib.Core.List.{List}
+use mathlib.Core.List.{List, []}
 use lib.ListN.{length, take, drop}
 use lib.Seq.{take_at, drop_at}
 use borrow.Author.Tests.{le-leb, lt-leb}
+use Rattle.std.specs.Prelude.{Result, Ok, Err}
+use Rattle.std.specs.Result.{result_unwrap_or}
+use Rattle.refusal.specs.declared.Refusal.{Refusal}
 use Rattle.object.proofs.Choice.{by_order}
-use Rattle.cells.specs.declared.Printed.{Printed}
 use Rattle.cells.specs.Laid.{Laid}
-use Rattle.cells.specs.Promise.{refused_as, Gives}
-use Rattle.cells.proofs.Laid.{laid_whole, laid_behind, front}
+use Rattle.cells.specs.Promise.{Printed, refused_as, as_printed, Gives}
+use Rattle.cells.proofs.Laid.{front}
 
-module _ (words old : List ℕ) where
-  pub too_short : length old < length words → Gives words old old (refused_as 13)
-  too_short h = let e = lt-leb (length words) (length old) h in record { answer = rw e; buffer = rw e }
+-- a refusal has length 0
+pub given_length : (r : Result ℕ Refusal) → result_unwrap_or r 0 ≡ (as_printed r).length
+given_length (Ok count) = refl
+given_length (Err refusal) = refl
 
-  pub fits : {new : List ℕ} {next : ℕ} → length words ≤ length old → Laid old 0 words new next → Gives words old new (record { refusal = 0; length = next })
-  fits room l =
-      let e = le-leb (length words) (length old) room in
-      record { answer = rw (e, laid_behind l (omega arith), zero-add); buffer = rw e (laid_whole l (omega arith) ∙ rw zero-add) }
-
--- a text that was laid from a buffer's first byte on, and fits, is given as what stands there
-pub given : {old words new : List ℕ} {next : ℕ} → Laid old 0 words new next → length words ≤ length old → {out after : List ℕ} {r : Printed} → Gives (take next new) out after r → Gives words out after r
-given l room g = rw (front l room) at g
+-- a text that was laid in one of its own, and fits, is given as its bytes
+pub given : {room : ℕ} {empty words new bytes : List ℕ} → empty ≡ [] → Laid room empty words new → length words ≤ room → bytes ≡ new
+    → {out after : List ℕ} {r : Printed} → Gives bytes out after r → Gives words out after r
+given none l room is g = rw (is, front none l room) at g
 
 module _ {words old new : List ℕ} {r : Printed} (g : Gives words old new r) where
   -- what is given lies within the buffer

@@ -34,13 +34,13 @@ module _ {A : Type 0} (shown : ℕ → A → List ℕ) where
         rw (add-one, take-suc l i d b, numbered_append 0 (take i l) (get_or l i d ∷ []), length-take-le i l (omega arith), zero-add, numbered_one)
 
     -- a loop that lays them: none, one more, all
-    pub lays_none : (old : List ℕ) (at : ℕ) → Laid old at (numbered shown 0 (take 0 l)) old at
+    pub lays_none : (room : ℕ) (old : List ℕ) → Laid room old (numbered shown 0 (take 0 l)) old
     unfolding numbered
-    lays_none old at = nothing_laid old at
+    lays_none room old = nothing_laid room old
 
-    pub lays_more : {old mid new : List ℕ} {at next last : ℕ} (i : ℕ) → i < length l
-        → Laid old at (numbered shown 0 (take i l)) mid next → Laid mid next (shown i (get_or l i d)) new last → Laid old at (numbered shown 0 (take (i + 1) l)) new last
+    pub lays_more : {room : ℕ} {old mid new : List ℕ} (i : ℕ) → i < length l
+        → Laid room old (numbered shown 0 (take i l)) mid → Laid room mid (shown i (get_or l i d)) new → Laid room old (numbered shown 0 (take (i + 1) l)) new
     lays_more i b before one = told (λ words. words) (one_more i b) (before & one)
 
-    pub lays_all : {old new : List ℕ} {at next : ℕ} (i : ℕ) → length l ≤ i → Laid old at (numbered shown 0 (take i l)) new next → Laid old at (numbered shown 0 l) new next
+    pub lays_all : {room : ℕ} {old new : List ℕ} (i : ℕ) → length l ≤ i → Laid room old (numbered shown 0 (take i l)) new → Laid room old (numbered shown 0 l) new
     lays_all i b l' = told (numbered shown 0) (take_all i l b) l'

@@ -5,6 +5,15 @@ use native.Mathlib.Omega.{arith}
 use mathlib.Core.Path.{◌≡◌, refl, ap, ap₂, ◌∙◌}
 use mathlib.Core.List.{List, [], ◌∷◌, ◌++◌, map, zip_with, append-nil, append_assoc}
 use lib.ListN.{length, get_or, replicate, length-append}
+use Rattle.std.specs.List.{enumerate_from, zip}
+use Rattle.std.specs.Slice.Iter.{iter_rest}
+use Rattle.std.specs.Iterator.Adapters.{zip_first, zip_second, enumerate_source, enumerate_count, enumerate_steps}
+use Rattle.std.specs.declared.iter.Enumerate.{Enumerate}
+use Rattle.std.specs.declared.iter.Zip.{Zip}
+use Rattle.std.proofs.Common.{Iter}
+use Rattle.std.proofs.iter.Yields.{fronts}
+use Rattle.std.proofs.lemmas.Iterator.{YieldsList, zips, YieldsList-from_slice, YieldsList-from_zip}
+use Rattle.std.proofs.lemmas.Iterator.Consumers.{YieldsList-from_enumerate}
 use Rattle.cells.specs.declared.Word.{Word}
 use Rattle.cells.specs.declared.Cell.{Cell}
 use Rattle.cells.specs.declared.Cell.TheVariants.{Number, Says}
@@ -12,33 +21,47 @@ use Rattle.cells.specs.Text.{text, decimal, spaces, line_end, text_line, numbere
 use Rattle.cells.specs.Cells.{word_text, cell_text}
 use Rattle.cells.specs.Rows.{in_column, columns, row_text, gap}
 
--- a cell and the spaces that it lacks
+-- a cell between the spaces that it lacks: in front of a number, behind a word
 module _ (width : ℕ) (cell : Cell) where
-  abbrev lack : List ℕ
-  lack = spaces (width - length (cell_text cell))
+  abbrev pub between : ℕ × ℕ → List ℕ
+  between sides = spaces sides.0 ++ (cell_text cell ++ spaces sides.1)
 
-  pub number_right : {n : ℕ} → cell ≡ Number n → lack ++ cell_text cell ≡ in_column width cell
-  number_right e = rw e
+  abbrev lack : ℕ
+  lack = width - length (cell_text cell)
 
-  pub word_left : {word : Word} → cell ≡ Says word → cell_text cell ++ lack ≡ in_column width cell
+  pub number_right : {n : ℕ} → cell ≡ Number n → between (lack, 0) ≡ in_column width cell
+  number_right e = rw (e, append-nil)
+
+  pub word_left : {word : Word} → cell ≡ Says word → between (0, lack) ≡ in_column width cell
   word_left e = rw e
 
-pub columns_length : (widths : List ℕ) (cells : List Cell) → length (columns widths cells) ≡ length widths - (length widths - length cells)
-unfolding zip_with
-columns_length [] cells = omega arith
-columns_length (width ∷ widths) [] = omega arith
-columns_length (width ∷ widths) (cell ∷ cells) = omega (arith, columns_length widths cells)
+-- the loop over widths and cells takes them in pairs, with their numbers
+pub pairs : (widths : List ℕ) (cells : List Cell) (s : Enumerate (Zip (Iter ℕ) (Iter Cell))) → iter_rest (zip_first (enumerate_source s)) ≡ widths → iter_rest (zip_second (enumerate_source s)) ≡ cells → enumerate_count s ≡ 0
+    → YieldsList (enumerate_steps (zips fronts fronts)) (λ x. (x.0, (x.1.0.now, x.1.1.now))) s (enumerate_from 0 (zip widths cells))
+pairs widths cells s first second none = YieldsList-from_enumerate (YieldsList-from_zip (YieldsList-from_slice widths first) (YieldsList-from_slice cells second)) none
 
-pub column_at : (widths : List ℕ) (cells : List Cell) (i : ℕ) (d : Cell) → i < length (columns widths cells) → get_or (columns widths cells) i [] ≡ in_column (get_or widths i 0) (get_or cells i d)
-unfolding zip_with
-column_at [] cells i d b = absurd (omega arith)
-column_at (width ∷ widths) [] i d b = absurd (omega arith)
-column_at (width ∷ widths) (cell ∷ cells) zero d b = refl
-column_at (width ∷ widths) (cell ∷ cells) (suc i) d b = column_at widths cells i d (omega arith)
+-- what it takes at a turn is the column of its place
+pub record Turn (widths : List ℕ) (cells : List Cell) (first k : ℕ) (x : ℕ × (ℕ × Cell)) : Type 0 where
+  pub there : k < length (columns widths cells)
+  pub place : x.0 ≡ first + k
+  pub column : in_column x.1.0 x.1.1 ≡ get_or (columns widths cells) k []
 
-pub gap_behind : (i : ℕ) → (i ≡ 0 → ⊥) → gap i ≡ text " "
-gap_behind zero b = absurd (b refl)
-gap_behind (suc i) b = refl
+pub turn : (widths : List ℕ) (cells : List Cell) (first k : ℕ) (x : ℕ × (ℕ × Cell))
+    → (k < length (enumerate_from first (zip widths cells))) × (x ≡ get_or (enumerate_from first (zip widths cells)) k x) → Turn widths cells first k x
+unfolding zip_with
+turn [] cells first k x h = absurd (omega (arith, h.0))
+turn (width ∷ widths) [] first k x h = absurd (omega (arith, h.0))
+turn (width ∷ widths) (cell ∷ cells) first zero x h =
+    record { there = omega arith; place = omega (arith, ap (λ (p : ℕ × (ℕ × Cell)). p.0) h.1); column = ap (λ (p : ℕ × (ℕ × Cell)). in_column p.1.0 p.1.1) h.1 }
+turn (width ∷ widths) (cell ∷ cells) first (suc k) x h =
+    let t = turn widths cells (first + 1) k x (omega (arith, h.0), h.1) in
+    record { there = omega (arith, t.there); place = omega (arith, t.place); column = t.column }
+
+pub turns : (widths : List ℕ) (cells : List Cell) (first : ℕ) → length (enumerate_from first (zip widths cells)) ≡ length (columns widths cells)
+unfolding zip_with
+turns [] cells first = refl
+turns (width ∷ widths) [] first = refl
+turns (width ∷ widths) (cell ∷ cells) first = ap suc (turns widths cells (first + 1))
 
 -- a word behind its gap
 abbrev pub spaced : ℕ → List ℕ → List ℕ

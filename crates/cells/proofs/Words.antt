@@ -1,44 +1,33 @@
--- Laws of words and cells: where each word stands in the code's table, and how long they and the line of a refusal are at most. Assumes nothing.
-use Prim.Native.Nat.{ℕ, zero, suc, ◌+◌, ◌-◌, ◌*◌, ◌≤◌}
+-- How long words, cells and the line of a refusal are at most. Assumes nothing.
+use Prim.Native.Nat.{ℕ, ◌≤◌}
 use native.Mathlib.Omega.{arith}
-use mathlib.Core.Path.{◌≡◌, refl, ap}
-use mathlib.Core.List.{List, ◌∷◌}
-use lib.ListN.{length, take, drop, length-append}
+use lib.ListN.{length, length-append}
 use Rattle.std.specs.Prelude.{Option, Some, None}
 use Rattle.object.specs.declared.Answer.{Answer}
 use Rattle.cells.specs.declared.Word.{Word}
 use Rattle.cells.specs.declared.Word.TheVariants.{Queue, Stack, Counter, Done, Value, Empty, Full, NoAnswer, Hyphen, Returned, Open, Cc, Dsm}
 use Rattle.cells.specs.declared.Cell.{Cell}
 use Rattle.cells.specs.declared.Cell.TheVariants.{Number, Says}
-use Rattle.cells.specs.Text.{text, decimal, spaces}
-use Rattle.cells.specs.Cells.{word_number, word_text, cell_text, mark_word}
+use Rattle.cells.specs.Text.{text, decimal}
+use Rattle.cells.specs.Cells.{word_text, cell_text, mark_word}
 use Rattle.cells.specs.Promise.{refusal_line}
 use Rattle.cells.proofs.Decimal.{at_most}
 
--- the code's table of words
-abbrev pub table : List ℕ
-table = text "queue   stack   counter done    value   empty   full    none    -       returnedopen    cc      dsm     "
-
--- a word stands in the table from 8 times its number on, and has at most 8 bytes
-pub record InTable (word : Word) : Type 0 where
-  pub number : word_number word ≤ 12
-  pub long : length (word_text word) ≤ 8
-  pub there : take (8 * word_number word + length (word_text word) - 8 * word_number word) (drop (8 * word_number word) table) ≡ word_text word
-
-pub in_table : (word : Word) → InTable word
-in_table Queue = record { number = omega arith; long = omega arith; there = refl }
-in_table Stack = record { number = omega arith; long = omega arith; there = refl }
-in_table Counter = record { number = omega arith; long = omega arith; there = refl }
-in_table Done = record { number = omega arith; long = omega arith; there = refl }
-in_table Value = record { number = omega arith; long = omega arith; there = refl }
-in_table Empty = record { number = omega arith; long = omega arith; there = refl }
-in_table Full = record { number = omega arith; long = omega arith; there = refl }
-in_table NoAnswer = record { number = omega arith; long = omega arith; there = refl }
-in_table Hyphen = record { number = omega arith; long = omega arith; there = refl }
-in_table Returned = record { number = omega arith; long = omega arith; there = refl }
-in_table Open = record { number = omega arith; long = omega arith; there = refl }
-in_table Cc = record { number = omega arith; long = omega arith; there = refl }
-in_table Dsm = record { number = omega arith; long = omega arith; there = refl }
+-- a word has at most eight bytes
+pub word_length : (word : Word) → length (word_text word) ≤ 8
+word_length Queue = omega arith
+word_length Stack = omega arith
+word_length Counter = omega arith
+word_length Done = omega arith
+word_length Value = omega arith
+word_length Empty = omega arith
+word_length Full = omega arith
+word_length NoAnswer = omega arith
+word_length Hyphen = omega arith
+word_length Returned = omega arith
+word_length Open = omega arith
+word_length Cc = omega arith
+word_length Dsm = omega arith
 
 -- a mark word has at most five bytes
 pub mark_length : (ret : Option Answer) → length (word_text (mark_word ret)) ≤ 5
@@ -51,12 +40,7 @@ mark_length (Some Answer.Full) = omega arith
 -- a cell has at most ten bytes
 pub cell_length : (cell : Cell) → length (cell_text cell) ≤ 10
 cell_length (Number n) = at_most 9 n
-cell_length (Says word) = omega (arith, (in_table word).long)
-
-pub take_spaces : (count most : ℕ) → count ≤ most → take count (spaces most) ≡ spaces count
-take_spaces zero most b = refl
-take_spaces (suc count) zero b = absurd (omega arith)
-take_spaces (suc count) (suc most) b = ap (λ (l : List ℕ). 32 ∷ l) (take_spaces count most (omega arith))
+cell_length (Says word) = omega (arith, word_length word)
 
 -- the line of a refusal has at most 19 bytes
 pub refusal_length : (number : ℕ) → length (refusal_line number) ≤ 19

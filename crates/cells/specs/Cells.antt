@@ -24,22 +24,6 @@ word_text Open = text "open"
 word_text Cc = text "cc"
 word_text Dsm = text "dsm"
 
--- the number of a word in the code's table of them
-abbrev pub word_number : Word → ℕ
-word_number Queue = 0
-word_number Stack = 1
-word_number Counter = 2
-word_number Done = 3
-word_number Value = 4
-word_number Empty = 5
-word_number Full = 6
-word_number NoAnswer = 7
-word_number Hyphen = 8
-word_number Returned = 9
-word_number Open = 10
-word_number Cc = 11
-word_number Dsm = 12
-
 -- a number in decimal, or a word
 abbrev pub cell_text : Cell → List ℕ
 cell_text (Number n) = decimal n

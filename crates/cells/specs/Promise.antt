@@ -1,11 +1,21 @@
 -- What the services that print promise: their answer and every byte of the lent buffer, for a text that is to be given.
-use Rattle.std.specs.Prelude.{ℕ, ◌≡◌, cond, List, [], ◌∷◌, ◌++◌, length, drop, leb}
-use Rattle.cells.specs.declared.Printed.{Printed}
+use Rattle.std.specs.Prelude.{ℕ, ◌≡◌, cond, List, [], ◌∷◌, ◌++◌, length, drop, leb, Result, Ok, Err}
+use Rattle.refusal.specs.declared.Refusal.{Refusal}
+use Rattle.refusal.specs.Numbers.{number}
 use Rattle.cells.specs.Text.{text, decimal, text_line}
+
+-- an answer in document 01's numbers: refusal 0 and the length of the text, or a refusal
+pub record Printed : Type 0 where
+  pub refusal : ℕ
+  pub length : ℕ
 
 -- a refusal, which has no length
 abbrev pub refused_as : ℕ → Printed
 refused_as number = record { refusal = number; length = 0 }
+
+abbrev pub as_printed : Result ℕ Refusal → Printed
+as_printed (Ok count) = record { refusal = 0; length = count }
+as_printed (Err refusal) = refused_as (number refusal)
 
 -- refusal 0 and the length of the text, or 13 where the buffer is too short
 abbrev pub printed_as : ℕ → List ℕ → Printed

@@ -1,22 +1,17 @@
-// The text of a result: the cells of a record, each decided here once and set in a line or in columns, and text in a lent buffer.
+// The text of a result: the cells of a record, each decided here once and set in a line or in columns, and text given in a lent buffer.
 #![tactic(auto)]
 
-ghost use Rattle.std.specs.Prelude.{◌≡◌, ◌+◌, ◌-◌, ◌≤◌, ◌<◌, length, eqb};
+ghost use Rattle.std.specs.Prelude.{◌≡◌, ◌+◌, ◌≤◌, ◌<◌, length, eqb, []};
 ghost use Rattle.history.specs.Terms.{record_length, number_at};
 ghost use Rattle.cells.specs.Text.{digit, decimal, spaces};
 ghost use Rattle.cells.specs.Laid.{Laid};
-ghost use Rattle.cells.specs.Cells.{word_number, word_text, cell_text, ret_of, answer_word, mark_word, value_cell, or_hyphen, state_word, byte_at, record_cells};
+ghost use Rattle.cells.specs.Cells.{word_text, cell_text, ret_of, answer_word, mark_word, value_cell, or_hyphen, state_word, byte_at, record_cells};
 ghost use Rattle.cells.specs.Rows.{gap, in_column, row_text};
-ghost use Rattle.cells.specs.Promise.{Gives, refusal_line};
+ghost use Rattle.cells.specs.Promise.{as_printed, Gives, refusal_line};
 
 use object::Answer;
-
-// Text given in a lent buffer: refusal 0 and its length, or a refusal with the buffer as it was.
-#[derive(Clone, Copy)]
-pub struct Printed {
-    pub refusal: u8,
-    pub length: usize,
-}
+use refusal::Refusal;
+use std::marker::Model;
 
 // The words of a result.
 #[derive(Clone, Copy)]
@@ -36,110 +31,34 @@ pub enum Word {
     Dsm,
 }
 
+impl Word {
+    // How it is written.
+    fn text(self) -> &'static [u8]
+        ensures { result.now ≡ word_text self }
+    {
+        match self {
+            Word::Queue => b"queue",
+            Word::Stack => b"stack",
+            Word::Counter => b"counter",
+            Word::Done => b"done",
+            Word::Value => b"value",
+            Word::Empty => b"empty",
+            Word::Full => b"full",
+            Word::NoAnswer => b"none",
+            Word::Hyphen => b"-",
+            Word::Returned => b"returned",
+            Word::Open => b"open",
+            Word::Cc => b"cc",
+            Word::Dsm => b"dsm",
+        }
+    }
+}
+
 // What stands in one place of a line or of a row.
 #[derive(Clone, Copy)]
 pub enum Cell {
     Number(u32),
     Says(Word),
-}
-
-fn lesser(a: usize, b: usize) -> usize
-    ensures { result ≡ a - (a - b) }
-{
-    if a < b { a } else { b }
-}
-
-// Lays a text into a buffer from a place on, as far as the buffer goes. Each function that lays text answers the place behind it.
-pub fn put_text(out: &mut [u8], at: usize, text: &[u8]) -> usize
-    ensures { Laid out.old at text.now out.new result }
-{
-    if out.len() < at {
-        return at;
-    }
-    let fits = lesser(out.len() - at, text.len());
-    out[at..at + fits].copy_from_slice(&text[..fits]);
-    at + fits
-}
-
-fn put_digit(out: &mut [u8], at: usize, d: u32) -> usize
-    requires { d < 10 }
-    ensures { Laid out.old at (digit d) out.new result }
-{
-    put_text(out, at, &[48 + d as u8])
-}
-
-// A number, its highest digit first.
-fn put_decimal(out: &mut [u8], at: usize, number: u32) -> usize
-    ensures { Laid out.old at (decimal number) out.new result }
-{
-    if number < 10 {
-        return put_digit(out, at, number);
-    }
-    let next = put_decimal(out, at, number / 10);
-    put_digit(out, next, number % 10)
-}
-
-// The words, 8 bytes each, by their numbers.
-const WORDS: [u8; 104] =
-    *b"queue   stack   counter done    value   empty   full    none    -       returnedopen    cc      dsm     ";
-
-fn word_number(word: Word) -> usize
-    ensures { result ≡ word_number word }
-{
-    match word {
-        Word::Queue => 0,
-        Word::Stack => 1,
-        Word::Counter => 2,
-        Word::Done => 3,
-        Word::Value => 4,
-        Word::Empty => 5,
-        Word::Full => 6,
-        Word::NoAnswer => 7,
-        Word::Hyphen => 8,
-        Word::Returned => 9,
-        Word::Open => 10,
-        Word::Cc => 11,
-        Word::Dsm => 12,
-    }
-}
-
-fn word_length(word: Word) -> usize
-    ensures { result ≡ length (word_text word) }
-{
-    match word {
-        Word::Queue => 5,
-        Word::Stack => 5,
-        Word::Counter => 7,
-        Word::Done => 4,
-        Word::Value => 5,
-        Word::Empty => 5,
-        Word::Full => 4,
-        Word::NoAnswer => 4,
-        Word::Hyphen => 1,
-        Word::Returned => 8,
-        Word::Open => 4,
-        Word::Cc => 2,
-        Word::Dsm => 3,
-    }
-}
-
-fn put_word(out: &mut [u8], at: usize, word: Word) -> usize
-    ensures { Laid out.old at (word_text word) out.new result }
-{
-    let words = WORDS;
-    let from = 8 * word_number(word);
-    let end = from + word_length(word);
-    put_text(out, at, &words[from..end])
-}
-
-// A cell without its column.
-pub fn put_cell(out: &mut [u8], at: usize, cell: Cell) -> usize
-    ensures { Laid out.old at (cell_text cell) out.new result }
-{
-    match cell {
-        Cell::Number(number) => put_decimal(out, at, number),
-        Cell::Says(word) => put_word(out, at, word),
-    }
 }
 
 // The response that a record's mark and value stand for.
@@ -216,21 +135,26 @@ fn state_word(over: u8) -> Word
 fn byte(bytes: &[u8], i: usize) -> u8
     ensures { result ≡ byte_at bytes.now i }
 {
-    if i < bytes.len() { bytes[i] } else { 0 }
+    bytes.get(i).copied().unwrap_or(0)
 }
 
 fn number2(bytes: &[u8], i: usize) -> u32
     requires { i + 2 ≤ record_length }
-    ensures { (result ≡ number_at bytes.now i 2) × (result < 65536) }
+    ensures { result ≡ number_at bytes.now i 2 }
 {
-    byte(bytes, i) as u32 + 256 * byte(bytes, i + 1) as u32
+    u16::from_le_bytes([byte(bytes, i), byte(bytes, i + 1)]) as u32
 }
 
 fn number4(bytes: &[u8], i: usize) -> u32
     requires { i + 4 ≤ record_length }
     ensures { result ≡ number_at bytes.now i 4 }
 {
-    number2(bytes, i) + 65536 * number2(bytes, i + 2)
+    u32::from_le_bytes([
+        byte(bytes, i),
+        byte(bytes, i + 1),
+        byte(bytes, i + 2),
+        byte(bytes, i + 3),
+    ])
 }
 
 // The cells of a record, from its order and its bytes.
@@ -259,93 +183,155 @@ fn record_cells(order: u32, bytes: &[u8]) -> [Cell; 11]
     ]
 }
 
-// How much a length lacks of a width.
-fn lacking(width: usize, length: usize) -> usize
-    ensures { result ≡ width - length }
-{
-    if width < length { 0 } else { width - length }
+// A text of at most N bytes. What is laid goes behind what stands there.
+#[derive(Drop)]
+pub struct Text<const N: usize> {
+    bytes: [u8; N],
+    length: usize,
 }
 
-fn put_spaces(out: &mut [u8], at: usize, count: usize) -> usize
-    requires { count ≤ 255 }
-    ensures { Laid out.old at (spaces count) out.new result }
-{
-    let blank = [b' '; 255];
-    put_text(out, at, &blank[..count])
+// Clauses see its bytes.
+impl<const N: usize> Model for Text<N> {
+    ghost use Rattle.std.specs.Prelude.{ℕ, ◌≤◌, List, take};
+
+    ghost Value = { List ℕ };
+
+    ghost view = { λ text. take text.length text.bytes };
+
+    ghost invariant = { λ text. text.length ≤ N };
 }
 
-// A cell in its column: a number right, a word left.
-fn put_column(out: &mut [u8], at: usize, width: u8, cell: Cell) -> usize
-    ensures { Laid out.old at (in_column width cell) out.new result }
-{
-    let mut words = [0u8; 10];
-    let length = put_cell(&mut words, 0, cell);
-    let lack = lacking(width as usize, length);
-    match cell {
-        Cell::Number(_) => {
-            let next = put_spaces(out, at, lack);
-            put_text(out, next, &words[..length])
-        }
-        Cell::Says(_) => {
-            let next = put_text(out, at, &words[..length]);
-            put_spaces(out, next, lack)
+impl<const N: usize> Text<N> {
+    // An empty text.
+    pub fn new() -> Self
+        ensures { result ≡ [] }
+    {
+        Text {
+            bytes: [0; N],
+            length: 0,
         }
     }
-}
 
-// One space in front of every column but the first.
-fn put_gap(out: &mut [u8], at: usize, i: usize) -> usize
-    ensures { Laid out.old at (gap i) out.new result }
-{
-    if i == 0 {
-        return at;
+    pub fn bytes(&self) -> &[u8]
+        ensures { result.now ≡ self.now }
+    {
+        &self.bytes[..self.length]
     }
-    put_text(out, at, b" ")
-}
 
-// A row of cells, as many as there are widths.
-fn put_row(out: &mut [u8], at: usize, widths: &[u8], cells: [Cell; 11]) -> usize
-    ensures { Laid out.old at (row_text widths.now cells) out.new result }
-{
-    let count = lesser(widths.len(), 11);
-    let mut next = at;
-    let mut i = 0usize;
-    while i < count {
-        next = put_gap(out, next, i);
-        next = put_column(out, next, widths[i], cells[i]);
-        i += 1;
+    // Each function that lays something lays as much of it as there is room for.
+    pub fn text(&mut self, words: &[u8])
+        ensures { Laid N self.old words.now self.new }
+    {
+        let fits = words.len().min(N - self.length);
+        let end = self.length + fits;
+        let bytes = &mut self.bytes[..];
+        bytes[self.length..end].copy_from_slice(&words[..fits]);
+        self.length = end;
     }
-    put_text(out, next, b"\n")
+
+    fn digit(&mut self, d: u32)
+        requires { d < 10 }
+        ensures { Laid N self.old (digit d) self.new }
+    {
+        self.text(&[b'0' + d as u8]);
+    }
+
+    // A number, its highest digit first.
+    pub fn number(&mut self, number: u32)
+        ensures { Laid N self.old (decimal number) self.new }
+    {
+        if number < 10 {
+            self.digit(number);
+            return;
+        }
+        self.number(number / 10);
+        self.digit(number % 10);
+    }
+
+    pub fn word(&mut self, word: Word)
+        ensures { Laid N self.old (word_text word) self.new }
+    {
+        self.text(word.text());
+    }
+
+    // A cell without its column.
+    pub fn cell(&mut self, cell: Cell)
+        ensures { Laid N self.old (cell_text cell) self.new }
+    {
+        match cell {
+            Cell::Number(number) => self.number(number),
+            Cell::Says(word) => self.word(word),
+        }
+    }
+
+    fn spaces(&mut self, count: usize)
+        requires { count ≤ 255 }
+        ensures { Laid N self.old (spaces count) self.new }
+    {
+        let blank = [b' '; 255];
+        self.text(&blank[..count]);
+    }
+
+    // A cell in its column: a number right, a word left.
+    fn column(&mut self, width: u8, cell: Cell)
+        ensures { Laid N self.old (in_column width cell) self.new }
+    {
+        let mut words: Text<10> = Text::new();
+        words.cell(cell);
+        let lack = (width as usize).saturating_sub(words.bytes().len());
+        let (before, behind) = match cell {
+            Cell::Number(_) => (lack, 0),
+            Cell::Says(_) => (0, lack),
+        };
+        self.spaces(before);
+        self.text(words.bytes());
+        self.spaces(behind);
+    }
+
+    // One space in front of every column but the first.
+    fn gap(&mut self, i: usize)
+        ensures { Laid N self.old (gap i) self.new }
+    {
+        self.text(if i == 0 { b"" } else { b" " });
+    }
+
+    // A row of cells, as many as there are widths.
+    fn row(&mut self, widths: &[u8], cells: &[Cell])
+        ensures { Laid N self.old (row_text widths.now cells.now) self.new }
+    {
+        for (i, (width, cell)) in widths.iter().zip(cells).enumerate() {
+            self.gap(i);
+            self.column(*width, *cell);
+        }
+        self.text(b"\n");
+    }
+
+    // The row of a record, from its order and its bytes, in columns of such widths; width 0 takes no more than the cell.
+    pub fn record(&mut self, widths: &[u8], order: u32, bytes: &[u8])
+        ensures { Laid N self.old (row_text widths.now (record_cells order bytes.now)) self.new }
+    {
+        self.row(widths, &record_cells(order, bytes));
+    }
 }
 
-// The row of a record, from its order and its bytes, in columns of such widths; width 0 takes no more than the cell.
-pub fn put_record(out: &mut [u8], at: usize, widths: &[u8], order: u32, bytes: &[u8]) -> usize
-    ensures { Laid out.old at (row_text widths.now (record_cells order bytes.now)) out.new result }
-{
-    put_row(out, at, widths, record_cells(order, bytes))
-}
-
-// Gives a text in a lent buffer, or 13.
-pub fn give(text: &[u8], out: &mut [u8]) -> Printed
-    ensures { Gives text.now out.old out.new result }
+// Gives a text in a lent buffer, and its length, or refuses with 13.
+pub fn give(text: &[u8], out: &mut [u8]) -> Result<usize, Refusal>
+    ensures { Gives text.now out.old out.new (as_printed result) }
 {
     if out.len() < text.len() {
-        return Printed {
-            refusal: 13,
-            length: 0,
-        };
+        return Err(Refusal::Buffer);
     }
-    let length = put_text(out, 0, text);
-    Printed { refusal: 0, length }
+    out[..text.len()].copy_from_slice(text);
+    Ok(text.len())
 }
 
-// Gives the line `refused N` in a lent buffer, or 13. It has 8 bytes, at most ten digits and a newline.
-pub fn give_refusal(number: u8, out: &mut [u8]) -> Printed
-    ensures { Gives (refusal_line number) out.old out.new result }
+// Gives the line `refused N` in a lent buffer, or refuses with 13. It has 8 bytes, at most ten digits and a newline. The number may be any.
+pub fn give_refusal(number: u8, out: &mut [u8]) -> Result<usize, Refusal>
+    ensures { Gives (refusal_line number) out.old out.new (as_printed result) }
 {
-    let mut words = [0u8; 19];
-    let name = put_text(&mut words, 0, b"refused ");
-    let next = put_decimal(&mut words, name, number as u32);
-    let length = put_text(&mut words, next, b"\n");
-    give(&words[..length], out)
+    let mut line: Text<19> = Text::new();
+    line.text(b"refused ");
+    line.number(number as u32);
+    line.text(b"\n");
+    give(line.bytes(), out)
 }

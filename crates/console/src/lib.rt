@@ -34,6 +34,9 @@ impl Output {
     }
 }
 
+// So many first bytes of an input decide what is printed of it as a bench file: an accepted file has at most 34,076.
+pub const DECIDING: usize = 34077;
+
 // Reads an input's first bytes: all, or as many as the buffer holds. Answers how many.
 pub fn read_start<R: Read>(input: &mut R, start: &mut [u8]) -> io::Result<usize>
     ensures { IfOk result (λ read. read ≤ length start.new) }

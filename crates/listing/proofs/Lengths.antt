@@ -17,7 +17,7 @@ use Rattle.cells.specs.Cells.{word_text, value_cell, or_hyphen, state_word, row_
 use Rattle.cells.proofs.Decimal.{at_most, no_longer}
 use Rattle.cells.proofs.Numbered.{numbered_most}
 use Rattle.cells.proofs.Rows.{taken, line_length}
-use Rattle.cells.proofs.Words.{in_table, mark_length, cell_length}
+use Rattle.cells.proofs.Words.{word_length, mark_length, cell_length}
 use Rattle.listing.specs.Listing.{kind_word, method_word, object_words, head_line, record_line}
 use Rattle.listing.specs.Promise.{head_most, line_most, enough_bytes}
 
@@ -70,7 +70,7 @@ line_most_lem order bytes =
       cell_length (or_hyphen no_thread.0 row.server),
       cell_length (or_hyphen no_turn row.turn),
       at_most 9 row.remote,
-      (in_table (state_word row.returned)).long,
+      word_length (state_word row.returned),
       at_most 9 (number_at bytes 16 4),
       cell_length (or_hyphen no_entry (number_at bytes 20 4)),
     ))

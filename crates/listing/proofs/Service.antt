@@ -15,9 +15,8 @@ use Rattle.claims.specs.Result.{result_as}
 use Rattle.bench.specs.Run.{records_laid}
 use Rattle.bench.proofs.Enough.{Ran, by_refusal}
 use Rattle.bench.proofs.InPlace.{laid_count}
-use Rattle.cells.specs.declared.Printed.{Printed}
 use Rattle.cells.specs.Text.{numbered}
-use Rattle.cells.specs.Promise.{Gives, refusal_line}
+use Rattle.cells.specs.Promise.{Printed, Gives, refusal_line}
 use Rattle.cells.proofs.Giving.{inside, untouched, not_refused, stands}
 use Rattle.cells.proofs.Words.{refusal_length}
 use Rattle.listing.specs.Listing.{head_line, record_line, listing_of}

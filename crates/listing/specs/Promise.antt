@@ -2,8 +2,7 @@
 use Rattle.std.specs.Prelude.{ℕ, ◌+◌, ◌*◌, ◌≤◌, ◌≡◌, List, length, drop}
 use Rattle.bench_file.specs.Layout.{judge_of}
 use Rattle.machine.specs.Sizes.{most_calls}
-use Rattle.cells.specs.declared.Printed.{Printed}
-use Rattle.cells.specs.Promise.{Gives}
+use Rattle.cells.specs.Promise.{Printed, Gives}
 use Rattle.listing.specs.Listing.{listing_of}
 
 -- how long a head line, of a version with one digit, and a record's line are at most

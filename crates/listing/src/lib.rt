@@ -8,19 +8,21 @@ ghost use Rattle.bench.specs.Run.{records_laid};
 ghost use Rattle.cells.specs.Text.{text, decimal, line_end, numbered};
 ghost use Rattle.cells.specs.Cells.{word_text};
 ghost use Rattle.cells.specs.Laid.{Laid};
-ghost use Rattle.cells.specs.Promise.{Gives};
+ghost use Rattle.cells.specs.Promise.{as_printed, Gives};
 ghost use Rattle.listing.specs.Listing.{kind_word, method_word, count_words, head_line, record_line};
-ghost use Rattle.listing.specs.Promise.{Lists};
+ghost use Rattle.listing.specs.Promise.{enough_bytes, Lists};
 
 use bench_file::Head;
-use cells::{Cell, Printed, Word};
+use cells::{Text, Word};
 use machine::Method;
 use object::Kind;
+use refusal::Refusal;
 use state::Counts;
 
 // So many bytes hold every listing: a head line of at most 129, and a line of at most 114 for each call.
 pub const ENOUGH: usize = 129 + machine::CALLS * 114;
 
+// These two are no `From`, which would stand with `Word` in `cells`: their definitions are the listing's own.
 fn kind_word(kind: Kind) -> Word
     ensures { result ≡ kind_word kind }
 {
@@ -41,83 +43,84 @@ fn method_word(method: Method) -> Word
 }
 
 // A number behind a name.
-fn put_named(out: &mut [u8], at: usize, name: &[u8], number: u32) -> usize
-    ensures { Laid out.old at (name.now ++ decimal number) out.new result }
+fn named(listing: &mut Text<ENOUGH>, name: &[u8], number: u32)
+    ensures { Laid enough_bytes listing.old (name.now ++ decimal number) listing.new }
 {
-    let next = cells::put_text(out, at, name);
-    cells::put_cell(out, next, Cell::Number(number))
+    listing.text(name);
+    listing.number(number);
 }
 
 // The head line from the counts on.
-fn put_counts(out: &mut [u8], at: usize, counts: Counts) -> usize
-    ensures { Laid out.old at (line_end (count_words counts)) out.new result }
+fn counts_end(listing: &mut Text<ENOUGH>, counts: Counts)
+    ensures { Laid enough_bytes listing.old (line_end (count_words counts)) listing.new }
 {
-    let calls = put_named(out, at, b" calls=", counts.records);
-    let turns = put_named(out, calls, b" turns=", counts.turns);
-    let blank = put_named(out, turns, b" blank=", counts.blanks);
-    let spin = put_named(out, blank, b" spin=", counts.spins);
-    let remote = put_named(out, spin, b" remote=", counts.remote);
-    cells::put_text(out, remote, b"\n")
+    named(listing, b" calls=", counts.records);
+    named(listing, b" turns=", counts.turns);
+    named(listing, b" blank=", counts.blanks);
+    named(listing, b" spin=", counts.spins);
+    named(listing, b" remote=", counts.remote);
+    listing.text(b"\n");
 }
 
 // The method's word behind a space; version 1 shows none.
-fn put_method(out: &mut [u8], at: usize, version: u16, method: Method) -> usize
-    ensures { Laid out.old at (cond (eqb version 1) [] (text " " ++ word_text (method_word method))) out.new result }
+fn method_behind(listing: &mut Text<ENOUGH>, version: u16, method: Method)
+    ensures { Laid enough_bytes listing.old (cond (eqb version 1) [] (text " " ++ word_text (method_word method))) listing.new }
 {
     if version == 1 {
-        return at;
+        return;
     }
-    let word = method_word(method);
-    let next = cells::put_text(out, at, b" ");
-    cells::put_cell(out, next, Cell::Says(word))
+    listing.text(b" ");
+    listing.word(method_word(method));
 }
 
-fn put_head(out: &mut [u8], at: usize, head: Head, counts: Counts) -> usize
-    ensures { Laid out.old at (head_line head counts) out.new result }
+fn head_line(listing: &mut Text<ENOUGH>, head: Head, counts: Counts)
+    ensures { Laid enough_bytes listing.old (head_line head counts) listing.new }
 {
-    let kind = head.object;
-    let word = kind_word(kind);
-    let method = head.method;
-    let version = put_named(out, at, b"CCS ", head.version as u32);
-    let named = put_method(out, version, head.version, method);
-    let space = cells::put_text(out, named, b" ");
-    let object = cells::put_cell(out, space, Cell::Says(word));
-    let n = put_named(out, object, b" n=", head.n as u32);
-    let h = put_named(out, n, b" h=", head.h as u32);
-    put_counts(out, h, counts)
+    named(listing, b"CCS ", head.version as u32);
+    method_behind(listing, head.version, head.method);
+    listing.text(b" ");
+    listing.word(kind_word(head.object));
+    named(listing, b" n=", head.n as u32);
+    named(listing, b" h=", head.h as u32);
+    counts_end(listing, counts);
 }
 
-// The lines of so many records: rows of 11 cells, in columns without a width of their own.
-fn put_records(out: &mut [u8], at: usize, records: &[u8], count: usize) -> usize
+// The lines of so many records: rows of 11 cells, in columns without a width of their own. The loop is the pages' without head rows: one function for both would
+// take these as a parameter that is nothing here. It goes by the index, since the library has no law of what `chunks_exact` gives a `for`.
+fn record_lines(listing: &mut Text<ENOUGH>, records: &[u8], count: usize)
     requires { (record_length * count ≤ length records.now) × (count ≤ most_calls) }
-    ensures { Laid out.old at (numbered record_line 0 (records_laid count records.now)) out.new result }
+    ensures { Laid enough_bytes listing.old (numbered record_line 0 (records_laid count records.now)) listing.new }
 {
-    let widths = [0u8; 11];
-    let mut next = at;
-    let mut i = 0usize;
-    while i < count {
+    for i in 0..count {
         let from = kept::RECORD_LENGTH * i;
-        let end = from + kept::RECORD_LENGTH;
-        next = cells::put_record(out, next, &widths, i as u32, &records[from..end]);
-        i += 1;
+        listing.record(
+            &[0; 11],
+            i as u32,
+            &records[from..from + kept::RECORD_LENGTH],
+        );
     }
-    next
 }
 
 // Lists a run of so many records.
-fn list_run(head: Head, counts: Counts, records: &[u8], count: usize, out: &mut [u8]) -> Printed
+fn list_run(
+    head: Head,
+    counts: Counts,
+    records: &[u8],
+    count: usize,
+    out: &mut [u8],
+) -> Result<usize, Refusal>
     requires { (record_length * count ≤ length records.now) × (count ≤ most_calls) × (head.version < 10) }
-    ensures { Gives (head_line head counts ++ numbered record_line 0 (records_laid count records.now)) out.old out.new result }
+    ensures { Gives (head_line head counts ++ numbered record_line 0 (records_laid count records.now)) out.old out.new (as_printed result) }
 {
-    let mut words = [0u8; ENOUGH];
-    let next = put_head(&mut words, 0, head, counts);
-    let length = put_records(&mut words, next, records, count);
-    cells::give(&words[..length], out)
+    let mut listing: Text<ENOUGH> = Text::new();
+    head_line(&mut listing, head, counts);
+    record_lines(&mut listing, records, count);
+    cells::give(listing.bytes(), out)
 }
 
 // Lists any bytes as a bench file: its refusal, or its run with a line for each record; a run that meets null has the line of 14.
-pub fn list(file: &[u8], out: &mut [u8]) -> Printed
-    ensures { Lists file.now out.old out.new result }
+pub fn list(file: &[u8], out: &mut [u8]) -> Result<usize, Refusal>
+    ensures { Lists file.now out.old out.new (as_printed result) }
 {
     match bench_file::judge(file) {
         Ok(judged) => {

@@ -28,7 +28,7 @@ use Rattle.cells.specs.Cells.{cell_text, value_cell, or_hyphen, state_word, Row,
 use Rattle.cells.specs.Shown.{shown_row}
 use Rattle.cells.proofs.Decimal.{at_most, no_longer}
 use Rattle.cells.proofs.Shown.{row_shown}
-use Rattle.cells.proofs.Words.{in_table, mark_length}
+use Rattle.cells.proofs.Words.{word_length, mark_length}
 use Rattle.page.specs.Pages.{pages_text, indexed}
 use Rattle.page.specs.Table.{In32Bits, Fits, Table}
 use Rattle.page.specs.Promise.{page_rows, enough_for_pages}
@@ -123,7 +123,7 @@ module _ (f : Fields) (fits : InRange f) (clear : clear_of f ≡ true) where
       and server_fits i (omega (arith, swapped))
       and or_hyphen_fits 4 no_turn w.turn (λ none. omega (arith, claim.turn_fits c))
       and (at_most 9 (cost_of c history), claim.cost_fits c)
-      and ((in_table (state_word (returned c history))).long, tt)
+      and (word_length (state_word (returned c history)), tt)
       and tt
 
   all_fit : Each Fits (page_rows f)

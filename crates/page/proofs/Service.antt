@@ -14,8 +14,7 @@ use Rattle.claims.specs.Entries.{clear_of}
 use Rattle.claims.specs.Result.{result_as}
 use Rattle.bench.specs.Run.{records_laid}
 use Rattle.bench.proofs.Enough.{Ran, by_refusal}
-use Rattle.cells.specs.declared.Printed.{Printed}
-use Rattle.cells.specs.Promise.{refused_as, printed_as, buffer_after, Gives}
+use Rattle.cells.specs.Promise.{Printed, refused_as, printed_as, buffer_after, Gives}
 use Rattle.cells.proofs.Giving.{inside, untouched}
 use Rattle.page.specs.Pages.{pages_text, rows_in}
 use Rattle.page.specs.Promise.{page_rows, page_answer, page_buffer, enough_for_pages, Prints}

@@ -19,7 +19,7 @@ use Rattle.cells.specs.declared.Word.TheVariants.{Queue, Stack, Counter, Done, V
 use Rattle.cells.specs.declared.Cell.{Cell}
 use Rattle.cells.specs.declared.Cell.TheVariants.{Number, Says}
 use Rattle.cells.specs.Text.{text, spaces, decimal, line_end}
-use Rattle.cells.specs.Cells.{word_number, word_text, cell_text, ret_of, mark_word, value_cell, or_hyphen, state_word, Row, row_cells}
+use Rattle.cells.specs.Cells.{word_text, cell_text, ret_of, mark_word, value_cell, or_hyphen, state_word, Row, row_cells}
 use Rattle.cells.specs.Rows.{in_column, columns, row_text}
 use Rattle.cells.proofs.Decimal.{IsDigit, decimal_digits, decimal_length, read_back, said}
 use Rattle.page.specs.Pages.{widths, page_row, head_row}
@@ -147,7 +147,23 @@ abbrev word_in : Cell → Word
 word_in (Number n) = Hyphen
 word_in (Says word) = word
 
--- the words done, value, empty and full have the numbers 3 to 6 in their table, and marks 0 to 3
+-- a number for each word, by which it is told
+abbrev pub word_number : Word → ℕ
+word_number Queue = 0
+word_number Stack = 1
+word_number Counter = 2
+word_number Done = 3
+word_number Value = 4
+word_number Empty = 5
+word_number Full = 6
+word_number NoAnswer = 7
+word_number Hyphen = 8
+word_number Returned = 9
+word_number Open = 10
+word_number Cc = 11
+word_number Dsm = 12
+
+-- the words done, value, empty and full have the numbers 3 to 6, and marks 0 to 3
 abbrev ret_in : Word → Cell → Option Answer
 ret_in word cell = ret_of (word_number word - 3) (number_in 0 cell)
 

@@ -6,10 +6,9 @@ use Rattle.machine.specs.declared.Event.TheVariants.{Swaps}
 use Rattle.history.specs.Entries.{how_many}
 use Rattle.history.specs.Terms.{swap_at, records_of}
 use Rattle.claims.specs.Entries.{history_of, clear_of}
-use Rattle.cells.specs.declared.Printed.{Printed}
 use Rattle.cells.specs.Cells.{Row}
 use Rattle.cells.specs.Shown.{shown_row}
-use Rattle.cells.specs.Promise.{refused_as, printed_as, buffer_after}
+use Rattle.cells.specs.Promise.{Printed, refused_as, printed_as, buffer_after}
 use Rattle.page.specs.Pages.{row_length, pages_text, rows_in}
 use Rattle.page.specs.Table.{Table}
 

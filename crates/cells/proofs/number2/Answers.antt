@@ -1,7 +1,7 @@
--- The lower byte stands first, and two bytes make less than 65536. Assumes nothing.
-use Rattle.std.proofs.Common.{arith}
+-- The lower byte stands first. Assumes nothing.
+use Rattle.std.proofs.Common.{◌∙◌}
 use Rattle.bench_file.proofs.Reading.{two_at}
 use Rattle.cells.proofs.number2.Goals as goal
 
 pub returns : goal.returns
-returns c = (omega (arith, two_at c.args.bytes.now c.args.i, c.byte.ensures, c.byte-2.ensures), omega arith)
+returns c = c.from_le_bytes.ensures ∙ rw (c.byte.ensures, c.byte-2.ensures) (two_at c.args.bytes.now c.args.i)

@@ -13,7 +13,7 @@ returns c =
       c.or_hyphen-server.ensures,
       c.byte-2.ensures,
       c.or_hyphen-turn.ensures,
-      c.number2.ensures.0,
+      c.number2.ensures,
       c.state_word-state.ensures,
       c.byte-3.ensures,
       c.or_hyphen-returned.ensures,

@@ -5,7 +5,7 @@ use Rattle.cells.specs.Text.{text, decimal}
 use Rattle.cells.proofs.Laid.{◌&◌, told}
 use Rattle.listing.specs.Listing.{method_word, object_words, head_line}
 use Rattle.listing.proofs.Head.{behind_method}
-use Rattle.listing.proofs.put_head.Goals as goal
+use Rattle.listing.proofs.head_line.Goals as goal
 
 pub returns : goal.returns
 unfolding head_line
@@ -13,10 +13,10 @@ returns c =
     let head = c.args.head in
     told (λ (words : List ℕ). text "CCS " ++ (decimal head.version ++ words))
     (behind_method (eqb head.version 1) (word_text (method_word head.method)) (object_words head c.args.counts))
-    (c.put_named-version.ensures
-    & c.put_method-named.ensures
-    & c.put_text-space.ensures
-    & told word_text c.kind_word-word.ensures c.put_cell-object.ensures
-    & c.put_named-n.ensures
-    & c.put_named-h.ensures
-    & c.put_counts.ensures)
+    (c.named.ensures
+    & c.method_behind.ensures
+    & c.text.ensures
+    & told word_text c.kind_word.ensures c.word.ensures
+    & c.named-2.ensures
+    & c.named-3.ensures
+    & c.counts_end.ensures)

@@ -1,5 +1,0 @@
--- a tenth is less
-use Rattle.cells.proofs.+put_decimal.Given as goal
-
-abbrev pub decreases-put_decimal : goal.decreases-put_decimal
-decreases-put_decimal l = l.number
