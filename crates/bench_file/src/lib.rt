@@ -233,6 +233,9 @@ fn read_entries(s: &[u8], n: u8, count: usize) -> Result<Reached, Refusal>
     Ok(Reached { next: count, count })
 }
 
+// A schedule has at most so many entries.
+const MOST_ENTRIES: u16 = 32768;
+
 // The schedule's length and its entries.
 fn read_schedule(s: &[u8], n: u8) -> Result<Reached, Refusal>
     ensures result_value { reached s.now result ≡ tallied length (schedule_reader n s.now) }
@@ -242,7 +245,7 @@ fn read_schedule(s: &[u8], n: u8) -> Result<Reached, Refusal>
         return Err(Refusal::CutOff);
     }
     let count = u16::from_le_bytes([s[0], s[1]]);
-    if 32768 < count {
+    if MOST_ENTRIES < count {
         return Err(Refusal::ScheduleLength);
     }
     let entries = read_entries(&s[2..], n, count as usize)?;

@@ -21,21 +21,21 @@ pub returns-then-s-lt2-clause-result_value : goal.returns-then-s-lt2-clause-resu
 unfolding schedule_reader
 returns-then-s-lt2-clause-result_value c = simp (field_cut 2 c.args.s.now c.if-s-lt2.true)
 
-pub returns-then-count-gt32768-clause-result_value : goal.returns-then-count-gt32768-clause-result_value
+pub returns-then-count-gt-MOST_ENTRIES-clause-result_value : goal.returns-then-count-gt-MOST_ENTRIES-clause-result_value
 unfolding schedule_reader
-returns-then-count-gt32768-clause-result_value c =
-    simp (field_whole 2 c.args.s.now c.if-s-lt2.false, sym (two_at c.args.s.now 0), ← c.from_le_bytes-count.ensures, lt-leb _ _ c.if-count-gt32768.true)
+returns-then-count-gt-MOST_ENTRIES-clause-result_value c =
+    simp (field_whole 2 c.args.s.now c.if-s-lt2.false, sym (two_at c.args.s.now 0), ← c.from_le_bytes-count.ensures, lt-leb _ _ c.if-count-gt-MOST_ENTRIES.true)
 
 pub returns-in_err-entries-clause-result_value : goal.returns-in_err-entries-clause-result_value
 returns-in_err-entries-clause-result_value c =
     let s = c.args.s.now in
     rw (passed_on c.from_residual.result c.from_residual.ensures)
     (rw (between_to_end s 2 (length s) (omega arith)) at c.in_err-entries.ensures.result_value
-    ∙ entries_left s c.args.n c.if-s-lt2.false (c.from_le_bytes-count.ensures ∙ two_at s 0) c.if-count-gt32768.false)
+    ∙ entries_left s c.args.n c.if-s-lt2.false (c.from_le_bytes-count.ensures ∙ two_at s 0) c.if-count-gt-MOST_ENTRIES.false)
 
 pub returns-clause-result_value : goal.returns-clause-result_value
 returns-clause-result_value c =
     let s = c.args.s.now in
     behind s 2 c.in_ok-entries.entries
     ∙ rw (between_to_end s 2 (length s) (omega arith)) at c.in_ok-entries.ensures.result_value
-    ∙ entries_left s c.args.n c.if-s-lt2.false (c.from_le_bytes-count.ensures ∙ two_at s 0) c.if-count-gt32768.false
+    ∙ entries_left s c.args.n c.if-s-lt2.false (c.from_le_bytes-count.ensures ∙ two_at s 0) c.if-count-gt-MOST_ENTRIES.false
