@@ -1,7 +1,7 @@
 // What one printed line of DSM-Synch does to its thread, to the node that it writes and to Tail: Algorithm 2 of source 004.
 #![tactic(auto)]
 
-ghost use Rattle.std.specs.Prelude.{◌-◌, ◌<◌, ◌≡◌, false, cond};
+ghost use Rattle.std.specs.Prelude.{◌<◌, ◌≡◌, false, cond};
 ghost use Rattle.machine.specs.Fields.{null};
 ghost use Rattle.machine.specs.Effect.{done, as_effect};
 ghost use Rattle.dsm_lines.specs.Lines.{line_of, empties};

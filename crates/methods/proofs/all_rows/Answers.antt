@@ -1,5 +1,5 @@
 -- Each pass puts the row of one more line, and after the last all rows stand in their places. Assumes nothing.
-use Rattle.std.proofs.Common.{rules, arith}
+use Rattle.std.proofs.Common.{rules}
 use Rattle.std.proofs.lemmas.List.FromFn.{fill_by_all}
 use Rattle.std.proofs.lemmas.List.Edits.{fill_by_more}
 use Rattle.methods.specs.Methods.{row_by}
