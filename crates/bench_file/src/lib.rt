@@ -133,7 +133,7 @@ fn read_limits(s: &[u8], version: u16, object: Kind) -> Result<Head, Refusal>
     })
 }
 
-// All bytes before the rows.
+// All bytes before the rows. The object's byte is asked as every other field, and not by `try_from`: `byte_in` gives its refusal and that of the end.
 fn read_head(s: &[u8]) -> Result<Head, Refusal>
     ensures result_value { head_read s.now result ≡ head_reader s.now }
     ensures head_inside { IfOk result (λ head. head_length head.version ≤ length s.now) }

@@ -67,7 +67,7 @@ fn no_request() -> Slot
     }
 }
 
-// A thread for each count.
+// A thread for each count; its number is a byte, as the state has it.
 fn fresh_threads(counts: [u8; 16]) -> [Thread; 16]
     ensures { result ≡ fresh_threads 0 counts }
 {
