@@ -30,7 +30,7 @@ pub struct Given<'a> {
     pub schedule: &'a [u8],
 }
 
-// A method's greatest number: version 1 has method 0 only.
+// A method's greatest number: version 1 has method 0 only. A number, since it is held against a method that a caller gives by any number.
 fn most_method(version: u16) -> u8
     ensures { result ≡ most_method version }
 {

@@ -100,7 +100,8 @@ fn takes_out(line: u8, thread: Thread, node: Node, h: u8) -> bool
 }
 
 // What the next line of a thread does to it, to the node that it points to and to Tail; 14 if it would take a number of the thread out, uses an
-// empty req or ret, or is past 21. The request is that of the thread's call, the answer the object's to the node's req.
+// empty req or ret, or is past 21. The request is that of the thread's call, the answer the object's to the node's req. What a line looks at is no struct: a line
+// of DSM-Synch looks at the node behind and at the thread's number as well, so each method would have its own.
 pub fn run_line(
     thread: Thread,
     node: Node,

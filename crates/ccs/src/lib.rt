@@ -1,4 +1,5 @@
-// The services for programs in other languages: judge, run, write, convert, list and page, on numbers and byte slices.
+// The services for programs in other languages: judge, run, write, convert, list and page, on numbers and byte slices, as the C interface has them: a refusal is
+// its number here, 0 for none.
 #![tactic(auto)]
 
 ghost use Rattle.std.specs.Prelude.{◌≡◌};

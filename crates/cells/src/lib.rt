@@ -61,7 +61,7 @@ pub enum Cell {
     Says(Word),
 }
 
-// The response that a record's mark and value stand for.
+// The response that a record's mark and value stand for: numbers, since a record is bytes.
 fn ret_of(mark: u8, value: u32) -> Option<Answer>
     ensures { result ≡ ret_of mark value }
 {

@@ -136,7 +136,8 @@ fn only_first(second: SharedAccess, third: SharedAccess, behind: NodeId) -> bool
     }
 }
 
-// The remote references of a line's accesses to its node and to the one behind it, and the copies after them.
+// The remote references of a line's accesses to its node and to the one behind it, and the copies after them. The accessor is made here: no caller has another use
+// for it.
 pub fn refer_all(
     method: Method,
     copies: &mut [u16; machine::LOCATIONS],

@@ -45,7 +45,7 @@ const LINES: [PrintedLine; 28] = [
 ];
 
 // The line that follows a line, by cases, one for each printed line. `node` is the one that the line points to, `behind` the one behind it, `pred` myPredNode,
-// `emptied` says whether line 23's CAS succeeds, and `served` is the printed counter; 0 is idle.
+// `emptied` says whether line 23's CAS succeeds, and `served` is the printed counter; 0 is idle. Each parameter stands in a test as printed.
 pub fn following(
     line: u8,
     node: Node,

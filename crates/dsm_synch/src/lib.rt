@@ -142,7 +142,7 @@ fn is_refused(line: u8, t: ThreadId, thread: Thread, node: Node, h: u8) -> bool
 
 // What the next line of thread t does to it, to the node that it writes and to Tail; 14 if it meets null, would take a number of the thread out, uses an empty req
 // or ret, is past 28 or finds no node. The node is the one that the line points to; the request is that of the thread's call, the answer the object's to the
-// node's req.
+// node's req. What a line looks at is no struct: CC-Synch's lines look at less.
 pub fn run_line(
     t: ThreadId,
     thread: Thread,

@@ -24,7 +24,7 @@ pub struct Kept {
 // How many bytes the record of a call has.
 pub const RECORD_LENGTH: usize = 24;
 
-// The place of no call: that of request 255 of thread 255.
+// The place of no call: that of request 255 of thread 255. No Option, which would make each of the notes twice as large; a run asks only of nodes that are given.
 pub const NO_CALL: u16 = 16 * 255 + 255;
 
 // The numbers below are the record's own: `Kept` is what a run keeps for the record's bytes, where an Option would be turned into these numbers again.

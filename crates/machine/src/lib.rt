@@ -25,7 +25,7 @@ pub enum Method {
     DsmSynch,
 }
 
-// Null is no node's number.
+// Null is no node's number. (An Option of a NodeId is left to do: docs/DESIGN-PASS.md.)
 pub const NULL: u8 = 255;
 
 // Room for two nodes of each of 16 threads, of which CC-Synch has one each and the first dummy; for Tail and each of them as locations; and for 16 calls of each
@@ -146,6 +146,7 @@ impl From<Method> for u8 {
     }
 }
 
+// Any number has a method, so this is no `TryFrom`: the file's reader and the writer judge the byte before.
 pub fn method_of(number: u8) -> Method
     ensures { result ≡ method_of number }
 {

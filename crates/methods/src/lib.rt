@@ -45,7 +45,7 @@ pub fn node_behind(method: Method, next: NodeId) -> NodeId
 }
 
 // What the next line of a thread, `named`, does to it, to the node that it writes and to Tail, or 14. The node is the one that the line points to, at which
-// CC-Synch stays, and `behind` the one that `node_behind` gives.
+// CC-Synch stays, and `behind` the one that `node_behind` gives. What a line looks at is no struct, since the two methods don't look at the same.
 pub fn run_line(
     method: Method,
     thread: ThreadId,

@@ -53,10 +53,13 @@ pub(crate) fn cuts(output: &mut Output, name: &str, file: &[u8]) {
 
 // How many bytes of a buffer hold 0xAA, and the sum of the sums of all its beginnings, which tells bytes that have changed places.
 fn held(output: &mut Output, out: &[u8]) {
-    let kept = out.iter().filter(|byte| **byte == 0xAA).count();
+    let mut kept = 0u64;
     let mut sum = 0u64;
     let mut sums = 0u64;
     for byte in out {
+        if *byte == 0xAA {
+            kept = kept.wrapping_add(1);
+        }
         sum = sum.wrapping_add(u64::from(*byte));
         sums = sums.wrapping_add(sum);
     }

@@ -12,7 +12,7 @@ use object::{Answer, Kind, Object, Request};
 use refusal::Refusal;
 use state::{Counts, State};
 
-// A node's req applied to the object: the answer and the object after it.
+// A node's req applied to the object: the answer and the object after it. Kind and capacity stand beside the object, as in a state.
 pub fn served_by(
     kind: Kind,
     capacity: u8,
