@@ -24,44 +24,39 @@ use Rattle.machine.specs.declared.Method.{Method}
 use Rattle.machine.specs.declared.Method.TheVariants.{CcSynch, DsmSynch}
 use Rattle.machine.specs.Methods.{last_node, tail_nullable}
 use Rattle.machine.specs.Sizes.{most_calls, most_nodes}
-use Rattle.state.specs.declared.Slot.{Slot}
-use Rattle.state.specs.Range.{pointer_in_range, slot_in_range, rows_in_range, thread_in_range, node_in_range}
+use Rattle.state.specs.Range.{pointer_in_range, rows_in_range, thread_in_range, node_in_range}
 use Rattle.state.specs.Shape.{Shaped}
 use Rattle.state.specs.Fresh.{fresh_thread, fresh_node, fresh_tail}
 use Rattle.state.proofs.Kept.{every_first, rows_first}
 use Rattle.state.proofs.Threads.{length_fresh, fresh_at}
 use Rattle.state.proofs.RangeFacts.{nowhere, PointersFit, thread_iff, nodes_held}
-use Rattle.step.specs.Entry.{zero_slot, zero_thread, zero_node}
+use Rattle.step.specs.Entry.{zero_request, zero_thread, zero_node}
 use Rattle.step.proofs.Soundness.{Sound}
 use Rattle.invariant.specs.View.{view_of}
 use Rattle.invariant.proofs.Start.{Fresh}
 use Rattle.history.specs.Entries.{thread_id}
-use Rattle.claims.specs.Entries.{filled, slots_of, rows_of, start_by}
+use Rattle.claims.specs.Entries.{filled, row_filled, rows_of, start_by}
 use Rattle.claims.specs.Claims.{asked_by}
 use Rattle.claims.proofs.Filled.{length_filled, filled_at}
 
-abbrev pub slot_of : Request → Slot
-slot_of request = record { request = request }
-
 -- the rows one after the other, 16 places each
-length_row : (row : List Request) → length row ≤ 16 → length (slots_of row) ≡ 16
-length_row row h = length_filled zero_slot 16 (map slot_of row) (rw length-map h)
+length_row : (row : List Request) → length row ≤ 16 → length (row_filled row) ≡ 16
+length_row row h = length_filled zero_request 16 row h
 
 pub length_rows : (kind : Kind) (rows : List (List Request)) → Each (RowInRange kind) rows → length (rows_of rows) ≡ 16 * length rows
 length_rows kind [] e = refl
 length_rows kind (row ∷ rows) e = rw (length-append, length_row row e.0.count, length_rows kind rows e.1) (omega arith)
 
-slot_at : (kind : Kind) (rows : List (List Request)) (t q : ℕ) → Each (RowInRange kind) rows → q < 16
-    → (get_or (rows_of rows) (16 * t + q) zero_slot).request ≡ get_or (get_or rows t []) q (Put 0)
-slot_at kind [] t q e h = refl
-slot_at kind (row ∷ rows) zero q e h =
+request_at : (kind : Kind) (rows : List (List Request)) (t q : ℕ) → Each (RowInRange kind) rows → q < 16
+    → get_or (rows_of rows) (16 * t + q) zero_request ≡ get_or (get_or rows t []) q (Put 0)
+request_at kind [] t q e h = refl
+request_at kind (row ∷ rows) zero q e h =
     rw zero-add
-    (ap (λ (x : Slot). x.request)
-    (get_or-append (slots_of row) (rows_of rows) zero_slot q (rw (length_row row e.0.count) h)
-    ∙ rw filled_at (get_or-map slot_of row q (Put 0))))
-slot_at kind (row ∷ rows) (suc t) q e h =
-    let next : 16 * suc t + q ≡ length (slots_of row) + (16 * t + q) = omega (arith, length_row row e.0.count) in
-    rw (next, get_or-append-add) (slot_at kind rows t q e.1 h)
+    (get_or-append (row_filled row) (rows_of rows) zero_request q (rw (length_row row e.0.count) h)
+    ∙ rw filled_at refl)
+request_at kind (row ∷ rows) (suc t) q e h =
+    let next : 16 * suc t + q ≡ length (row_filled row) + (16 * t + q) = omega (arith, length_row row e.0.count) in
+    rw (next, get_or-append-add) (request_at kind rows t q e.1 h)
 
 module _ (f : Fields) (fits : InRange f) where
   few : length (map length f.rows) ≤ 16
@@ -83,8 +78,8 @@ module _ (f : Fields) (fits : InRange f) where
 
 module _ (m : Method) (f : Fields) (fits : InRange f) where
   -- the requests of thread t's row, and past its end the request of an empty place
-  pub requests_start : (t q : ℕ) → q < 16 → (get_or (start_by m f).requests (16 * t + q) zero_slot).request ≡ asked_by f (record { thread = thread_id t; request = q })
-  requests_start t q h = rw filled_at (slot_at f.head.object f.rows t q fits.rows h)
+  pub requests_start : (t q : ℕ) → q < 16 → get_or (start_by m f).requests (16 * t + q) zero_request ≡ asked_by f (record { thread = thread_id t; request = q })
+  requests_start t q h = rw filled_at (request_at f.head.object f.rows t q fits.rows h)
 
   pub thread_start : (u : ℕ) → u < f.head.n → get_or (start_by m f).threads u zero_thread ≡ fresh_thread u (length (get_or f.rows u []))
   thread_start u h =
@@ -98,7 +93,7 @@ module _ (m : Method) (f : Fields) (fits : InRange f) where
   shaped_start = record {
     threads = length_fresh 0 (filled 16 0 (map length f.rows)) ∙ length_filled 0 16 (map length f.rows) (few f fits);
     nodes = refl;
-    requests = length_filled zero_slot most_calls (rows_of f.rows) (rw (length_rows f.head.object f.rows fits.rows) (omega (arith, fits.threads, fits.head.n)));
+    requests = length_filled zero_request most_calls (rows_of f.rows) (rw (length_rows f.head.object f.rows fits.rows) (omega (arith, fits.threads, fits.head.n)));
     copies = refl;
     items = refl;
   }
@@ -142,7 +137,7 @@ module _ (m : Method) (f : Fields) (fits : InRange f) where
   rows_fit =
       rows_first f.head.object (start_by m f).requests zero_thread 0 f.head.n (start_by m f).threads (λ t h.
       rw (zero-add, thread_start m f fits t h)
-      (every_first (slot_in_range f.head.object) zero_slot (length (get_or f.rows t [])) (drop (16 * t) (start_by m f).requests) (λ q k.
+      (every_first (knows f.head.object) zero_request (length (get_or f.rows t [])) (drop (16 * t) (start_by m f).requests) (λ q k.
       rw (get_or-drop, requests_start m f fits t q (omega (arith, row_few f fits t h)))
       (row_known f fits t q h k))))
 

@@ -15,10 +15,9 @@ use Rattle.machine.specs.Accesses.{Access}
 use Rattle.machine.specs.Events.{same_event, node_told, given_told, req_told, ret_told}
 use Rattle.machine.specs.Sizes.{most_calls}
 use Rattle.dsm_synch.specs.Effect.{assigned}
-use Rattle.state.specs.declared.Slot.{Slot}
 use Rattle.state.specs.declared.State.{State}
 use Rattle.state.specs.Fresh.{fresh_state_by}
-use Rattle.step.specs.Entry.{zero_slot, named}
+use Rattle.step.specs.Entry.{zero_request, named}
 use Rattle.step.specs.ByMethod.{points_to_by, node_by, event_by, applied_by, accesses_by, entered_by, null_met_by}
 use Rattle.history.specs.Entries.{Entry, thread_id}
 use Rattle.history.specs.Copies.{remote_marks}
@@ -61,18 +60,18 @@ abbrev pub filled : {A : Type 0} → ℕ → A → List A → List A
 filled k a l = l ++ replicate (k - length l) a
 
 -- a thread's requests on 16 places, and those of all threads
-abbrev pub slots_of : List Request → List Slot
-slots_of row = filled 16 zero_slot (map (λ (request : Request). record { request = request }) row)
+abbrev pub row_filled : List Request → List Request
+row_filled row = filled 16 zero_request row
 
-abbrev pub rows_of : List (List Request) → List Slot
+abbrev pub rows_of : List (List Request) → List Request
 rows_of [] = []
-rows_of (row ∷ rows) = slots_of row ++ rows_of rows
+rows_of (row ∷ rows) = row_filled row ++ rows_of rows
 
 -- the fresh machine of a file: thread i's requests stand from place 16 · i on
 abbrev pub start_by : Method → Fields → State
 start_by m f =
     fresh_state_by m f.head.object f.head.n f.head.h f.head.capacity (filled 16 0 (map length f.rows))
-    (filled most_calls zero_slot (rows_of f.rows))
+    (filled most_calls zero_request (rows_of f.rows))
 
 -- the entries of a schedule from a state, and the state after them
 unfoldable pub entries_from : Method → State → List ℕ → List Entry

@@ -2,7 +2,7 @@
 use Prim.Native.Nat.{ℕ, suc, ◌+◌, ◌*◌, ◌-◌, ◌<◌}
 use native.Mathlib.Omega.{arith}
 use mathlib.Core.Path.{◌≡◌, refl, sym}
-use mathlib.Core.List.{List, [], ◌∷◌, ◌++◌, map}
+use mathlib.Core.List.{List, [], ◌∷◌, ◌++◌}
 use lib.ListN.{length, drop, set}
 use lib.Seq.{sets, drop-drop}
 use Rattle.object.specs.declared.Kind.{Kind}
@@ -13,14 +13,12 @@ use Rattle.object.proofs.Inverse.{request_told}
 use Rattle.bench_file.specs.Bytes.{low_first, each_bytes, request_bytes, RequestInRange}
 use Rattle.bench_file.proofs.Each.{low_value}
 use Rattle.bench_file.proofs.RoundTrip.{request_range}
-use Rattle.state.specs.declared.Slot.{Slot}
-use Rattle.claims.proofs.Start.{slot_of}
-use Rattle.loader.specs.Load.{request_in, slots_in}
+use Rattle.loader.specs.Load.{request_in, requests_in}
 
 -- one request more is laid
-pub laid_more : (rows : List Slot) (first : ℕ) (bytes : List ℕ) (count k : ℕ) {request : Request} → k < count → request ≡ request_in (drop (5 * k) bytes)
-    → sets (set rows (first + k) (record { request = request })) (first + (k + 1)) (slots_in (count - (k + 1)) (drop (5 * (k + 1)) bytes))
-    ≡ sets rows (first + k) (slots_in (count - k) (drop (5 * k) bytes))
+pub laid_more : (rows : List Request) (first : ℕ) (bytes : List ℕ) (count k : ℕ) {request : Request} → k < count → request ≡ request_in (drop (5 * k) bytes)
+    → sets (set rows (first + k) request) (first + (k + 1)) (requests_in (count - (k + 1)) (drop (5 * (k + 1)) bytes))
+    ≡ sets rows (first + k) (requests_in (count - k) (drop (5 * k) bytes))
 laid_more rows first bytes count k h e =
     let left : count - k ≡ suc (count - (k + 1)) = omega arith in
     let place : first + (k + 1) ≡ suc (first + k) = omega arith in
@@ -32,8 +30,8 @@ decoded : (kind : Kind) (r : Request) (rest : List ℕ) → RequestInRange kind 
 unfolding low_first
 decoded kind r rest h = rw (low_value 4 (request_value r) ((request_range kind r).1 h).1) (sym (request_told r).1)
 
-pub slots_decoded : (kind : Kind) (row : List Request) (rest : List ℕ) → Each (RequestInRange kind) row
-    → slots_in (length row) (each_bytes request_bytes row ++ rest) ≡ map slot_of row
+pub requests_decoded : (kind : Kind) (row : List Request) (rest : List ℕ) → Each (RequestInRange kind) row
+    → requests_in (length row) (each_bytes request_bytes row ++ rest) ≡ row
 unfolding each_bytes low_first
-slots_decoded kind [] rest e = refl
-slots_decoded kind (r ∷ row) rest e = cc (decoded kind r (each_bytes request_bytes row ++ rest) e.0, slots_decoded kind row rest e.1)
+requests_decoded kind [] rest e = refl
+requests_decoded kind (r ∷ row) rest e = cc (decoded kind r (each_bytes request_bytes row ++ rest) e.0, requests_decoded kind row rest e.1)

@@ -19,14 +19,13 @@ use Rattle.bench_file.proofs.Size.{request_length, head_length_lem}
 use Rattle.bench_file.proofs.RoundTrip.{accepted_exactly}
 use Rattle.machine.specs.Methods.{method_number}
 use Rattle.machine.specs.Sizes.{most_calls}
-use Rattle.state.specs.declared.Slot.{Slot}
 use Rattle.state.specs.Fresh.{fresh_state_by}
-use Rattle.step.specs.Entry.{zero_slot}
-use Rattle.claims.specs.Entries.{filled, slots_of, rows_of, start_by}
+use Rattle.step.specs.Entry.{zero_request}
+use Rattle.claims.specs.Entries.{filled, row_filled, rows_of, start_by}
 use Rattle.claims.proofs.Filled.{sets_filled, set_filled}
-use Rattle.claims.proofs.Start.{slot_of, length_rows}
-use Rattle.loader.specs.Load.{slots_in}
-use Rattle.loader.proofs.Decoded.{slots_decoded}
+use Rattle.claims.proofs.Start.{length_rows}
+use Rattle.loader.specs.Load.{requests_in}
+use Rattle.loader.proofs.Decoded.{requests_decoded}
 
 -- from the schedule's length on
 abbrev schedule_bytes : Fields → List ℕ
@@ -42,9 +41,9 @@ behind_head_lem f =
     behind_first (head_bytes head) (each_bytes row_bytes f.rows) (low_first 2 (length f.schedule)) f.schedule (head_length head.version)
     (head_length_lem head.version (kind_number head.object) head.n head.h head.capacity (method_number head.method))
 
-rows_snoc : (rows : List (List Request)) (row : List Request) → rows_of (rows ++ row ∷ []) ≡ rows_of rows ++ slots_of row
-rows_snoc [] row = append-nil (slots_of row)
-rows_snoc (r ∷ rows) row = ap (λ (l : List Slot). slots_of r ++ l) (rows_snoc rows row) ∙ sym (append_assoc (slots_of r) (rows_of rows) (slots_of row))
+rows_snoc : (rows : List (List Request)) (row : List Request) → rows_of (rows ++ row ∷ []) ≡ rows_of rows ++ row_filled row
+rows_snoc [] row = append-nil (row_filled row)
+rows_snoc (r ∷ rows) row = ap (λ (l : List Request). row_filled r ++ l) (rows_snoc rows row) ∙ sym (append_assoc (row_filled r) (rows_of rows) (row_filled row))
 
 -- a row that begins at byte `at` lies within the bytes, and its requests within the places of thread i
 abbrev pub RowInside : List ℕ → ℕ → ℕ → Type 0
@@ -94,37 +93,37 @@ module _ (f : Fields) (fits : InRange f) (bytes : List ℕ) (i at : ℕ) (left :
       rw (count_here, add-one, take-suc f.rows i [] there, map-append)
       (set_filled 0 16 i (map length (take i f.rows)) (length (row_at f i)) (rw length-map so_far) (omega (arith, fits.head.n)))
 
-  requests_next : sets (filled most_calls zero_slot (rows_of (take i f.rows))) (16 * i) (slots_in (get_or bytes at 0) (drop (at + 1) bytes)) ≡ filled most_calls zero_slot (rows_of (take (i + 1) f.rows))
+  requests_next : sets (filled most_calls zero_request (rows_of (take i f.rows))) (16 * i) (requests_in (get_or bytes at 0) (drop (at + 1) bytes)) ≡ filled most_calls zero_request (rows_of (take (i + 1) f.rows))
   requests_next =
-      rw (requests_here, count_here, slots_decoded f.head.object (row_at f i) (behind_row f i) in_range.requests, add-one, take-suc f.rows i [] there, rows_snoc)
-      (sets_filled zero_slot most_calls (16 * i) (rows_of (take i f.rows)) (map slot_of (row_at f i)) (16 - length (map slot_of (row_at f i)))
+      rw (requests_here, count_here, requests_decoded f.head.object (row_at f i) (behind_row f i) in_range.requests, add-one, take-suc f.rows i [] there, rows_snoc)
+      (sets_filled zero_request most_calls (16 * i) (rows_of (take i f.rows)) (row_at f i) (16 - length (row_at f i))
       (length_rows f.head.object (take i f.rows) (each_take (RowInRange f.head.object) i f.rows fits.rows) ∙ rw so_far)
-      (rw length-map (omega (arith, in_range.count, fits.head.n))))
+      (omega (arith, in_range.count, fits.head.n)))
 
 -- the walk: at byte `at` row i begins, and the rows before it are laid
-pub record Walk (bytes : List ℕ) (head : Head) (i at : ℕ) (counts : List ℕ) (requests : List Slot) : Type 0 where
+pub record Walk (bytes : List ℕ) (head : Head) (i at : ℕ) (counts : List ℕ) (requests : List Request) : Type 0 where
   pub f : Fields
   pub judged : judge_of bytes ≡ accepted f
   pub its_head : f.head ≡ head
   pub fits : InRange f
   pub left : drop at bytes ≡ each_bytes row_bytes (drop i f.rows) ++ schedule_bytes f
   pub counted : counts ≡ filled 16 0 (map length (take i f.rows))
-  pub laid : requests ≡ filled most_calls zero_slot (rows_of (take i f.rows))
+  pub laid : requests ≡ filled most_calls zero_request (rows_of (take i f.rows))
 
 pub walk_starts : (bytes : List ℕ) (head : Head) → Each Byte bytes → ((f : Fields) × (judge_of bytes ≡ accepted f) × (f.head ≡ head))
-    → Walk bytes head 0 (head_length head.version) (replicate 16 0) (replicate most_calls zero_slot)
+    → Walk bytes head 0 (head_length head.version) (replicate 16 0) (replicate most_calls zero_request)
 walk_starts bytes head p (f, e, z) =
     let (fits, b) = (accepted_exactly bytes f p).0 e in
     record { f = f; judged = e; its_head = z; fits = fits; left = rw (← b, ← z) (behind_head_lem f); counted = refl; laid = refl }
 
-module _ {bytes : List ℕ} {head : Head} {i at : ℕ} {counts : List ℕ} {requests : List Slot} (w : Walk bytes head i at counts requests) (h : i < head.n) where
+module _ {bytes : List ℕ} {head : Head} {i at : ℕ} {counts : List ℕ} {requests : List Request} (w : Walk bytes head i at counts requests) (h : i < head.n) where
   below : i < w.f.head.n
   below = rw w.its_head h
 
   pub row_inside : RowInside bytes i at
   row_inside = room w.f w.fits bytes i at w.left below
 
-  pub walk_goes_on : Walk bytes head (i + 1) (at + (1 + 5 * get_or bytes at 0)) (set counts i (get_or bytes at 0)) (sets requests (16 * i) (slots_in (get_or bytes at 0) (drop (at + 1) bytes)))
+  pub walk_goes_on : Walk bytes head (i + 1) (at + (1 + 5 * get_or bytes at 0)) (set counts i (get_or bytes at 0)) (sets requests (16 * i) (requests_in (get_or bytes at 0) (drop (at + 1) bytes)))
   walk_goes_on = record {
     f = w.f;
     judged = w.judged;
@@ -135,7 +134,7 @@ module _ {bytes : List ℕ} {head : Head} {i at : ℕ} {counts : List ℕ} {requ
     laid = rw w.laid (requests_next w.f w.fits bytes i at w.left below);
   }
 
-pub walk_ends : {bytes : List ℕ} {head : Head} {i at : ℕ} {counts : List ℕ} {requests : List Slot} → Walk bytes head i at counts requests → head.n ≤ i
+pub walk_ends : {bytes : List ℕ} {head : Head} {i at : ℕ} {counts : List ℕ} {requests : List Request} → Walk bytes head i at counts requests → head.n ≤ i
     → (f : Fields) → judge_of bytes ≡ accepted f → fresh_state_by head.method head.object head.n head.h head.capacity counts requests ≡ start_by head.method f
 walk_ends {i = i} w h f e =
     let same : f ≡ w.f = cc (sym e ∙ w.judged) in

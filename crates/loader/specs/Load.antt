@@ -4,7 +4,6 @@ use Rattle.object.specs.declared.Request.{Request}
 use Rattle.object.specs.Paper.{request_of}
 use Rattle.bench_file.specs.Reading.{little_endian}
 use Rattle.bench_file.specs.Layout.{requests_of, Judgement, accepted, refused_by}
-use Rattle.state.specs.declared.Slot.{Slot}
 use Rattle.claims.specs.Entries.{start_by}
 use Rattle.loader.specs.declared.Loaded.{Loaded}
 
@@ -17,6 +16,6 @@ loaded_as (refused_by number) = Err number
 abbrev pub request_in : List ℕ → Request
 request_in bytes = request_of (get_or bytes 0 0) (little_endian (take 4 (drop 1 bytes)))
 
-abbrev pub slots_in : ℕ → List ℕ → List Slot
-slots_in zero bytes = []
-slots_in (suc count) bytes = record { request = request_in bytes } ∷ slots_in count (drop 5 bytes)
+abbrev pub requests_in : ℕ → List ℕ → List Request
+requests_in zero bytes = []
+requests_in (suc count) bytes = request_in bytes ∷ requests_in count (drop 5 bytes)

@@ -7,15 +7,15 @@ ghost use Rattle.refusal.specs.Numbers.{by_number};
 ghost use Rattle.bench_file.specs.Layout.{Fields, accepted, judge_of};
 ghost use Rattle.machine.specs.Sizes.{most_calls};
 ghost use Rattle.state.specs.Fresh.{fresh_thread, fresh_threads, fresh_node, fresh_tail, fresh_state_by};
-ghost use Rattle.step.specs.Entry.{zero_slot};
+ghost use Rattle.step.specs.Entry.{zero_request};
 ghost use Rattle.claims.specs.Entries.{start_by};
-ghost use Rattle.loader.specs.Load.{request_in, slots_in, loaded_as};
+ghost use Rattle.loader.specs.Load.{request_in, requests_in, loaded_as};
 
 use bench_file::Head;
 use machine::{Method, Node, NodeId, Thread};
 use object::Request;
 use refusal::Refusal;
-use state::{Counts, Slot, State};
+use state::{Counts, State};
 
 // What an accepted file loads as: how many requests and entries it has, and its fresh machine.
 #[derive(Clone, Copy)]
@@ -59,12 +59,10 @@ fn fresh_node() -> Node
 }
 
 // A place without a request.
-fn no_request() -> Slot
-    ensures { result ≡ zero_slot }
+fn no_request() -> Request
+    ensures { result ≡ zero_request }
 {
-    Slot {
-        request: Request::Put(0),
-    }
+    Request::Put(0)
 }
 
 // A thread for each count; its number is a byte, as the state has it.
@@ -85,7 +83,7 @@ fn fresh_tail(method: Method) -> NodeId
 }
 
 // The fresh machine of a head, counts and requests.
-fn fresh(head: Head, counts: [u8; 16], requests: [Slot; machine::CALLS]) -> State
+fn fresh(head: Head, counts: [u8; 16], requests: [Request; machine::CALLS]) -> State
     ensures { result ≡ fresh_state_by head.method head.object head.n head.h head.capacity counts requests }
 {
     State {
@@ -120,13 +118,13 @@ fn request_in(bytes: &[u8]) -> Request
 }
 
 // Lays so many requests from place `first` on, as the bytes have them.
-fn lay(requests: &mut [Slot; machine::CALLS], first: usize, bytes: &[u8], count: usize)
+fn lay(requests: &mut [Request; machine::CALLS], first: usize, bytes: &[u8], count: usize)
     requires { (first + count ≤ most_calls) × (5 * count ≤ length bytes.now) }
-    ensures { requests.new ≡ sets requests.old first (slots_in count bytes.now) }
+    ensures { requests.new ≡ sets requests.old first (requests_in count bytes.now) }
 {
     for k in 0..count {
         let request = request_in(&bytes[5 * k..]);
-        requests[first + k] = Slot { request };
+        requests[first + k] = request;
     }
 }
 

@@ -71,8 +71,7 @@ fn from_start(schedule: &[u8], start: State) -> Result<Played, Refusal>
         let event = machine::event_in(row, node, tail.0 == tmp.0);
         let applies = event == Event::Applies;
         let place = step::call_place(thread, named.begun);
-        let slot = state.requests[place];
-        let request = slot.request;
+        let request = state.requests[place];
         let counts = state.counts;
         let mut answer = Answer::Empty;
         if applies {

@@ -8,10 +8,11 @@ use mathlib.Core.List.{List, [], ◌∷◌}
 use lib.ListN.{length, get_or, take, drop, set, length-drop}
 use lib.Seq.{length-take-le, take-set-lt, get_or-take, get_or-drop, set-get_or}
 use Rattle.object.specs.declared.Kind.{Kind}
+use Rattle.object.specs.declared.Request.{Request}
 use Rattle.object.specs.Each.{every}
+use Rattle.object.specs.Apply.{knows}
 use Rattle.machine.specs.declared.Thread.{Thread}
-use Rattle.state.specs.declared.Slot.{Slot}
-use Rattle.state.specs.Range.{slot_in_range, row_of_thread, rows_in_range}
+use Rattle.state.specs.Range.{row_of_thread, rows_in_range}
 
 module _ {A : Type 0} (p : A → Bool) where
   -- where all pass, they pass after a place is set exactly if the new one does
@@ -30,7 +31,7 @@ module _ {A : Type 0} (p : A → Bool) where
     pub first_at : (d : A) → p (get_or xs k d) ≡ true
     first_at d = sym (first_set (get_or xs k d)) ∙ rw set-get_or all
 
-module _ (kind : Kind) (requests : List Slot) where
+module _ (kind : Kind) (requests : List Request) where
   -- the rows hang on the threads' counts alone
   rows_set : (i : ℕ) (ths : List Thread) (k : ℕ) (th d : Thread) → th.count ≡ (get_or ths k d).count
       → rows_in_range kind requests i (set ths k th) ≡ rows_in_range kind requests i ths
@@ -40,7 +41,7 @@ module _ (kind : Kind) (requests : List Slot) where
 
   -- the row of each thread passes
   row_at : (i : ℕ) (ths : List Thread) (k : ℕ) (d : Thread) → rows_in_range kind requests i ths ≡ true → k < length ths
-      → every (slot_in_range kind) (row_of_thread requests (i + k) (get_or ths k d).count) ≡ true
+      → every (knows kind) (row_of_thread requests (i + k) (get_or ths k d).count) ≡ true
   row_at i [] k d e h = absurd (omega arith)
   row_at i (x ∷ ths) zero d e h = rw add-zero (simp and-eq-true_iff at e).0
   row_at i (x ∷ ths) (suc k) d e h =
@@ -53,12 +54,12 @@ module _ (kind : Kind) (requests : List Slot) where
     rows_stay th d e = rw take-set-lt (rows_set 0 (take n ths) k th d (rw get_or-take e))
 
     -- each request that a thread's count covers is known
-    pub known_at : rows_in_range kind requests 0 (take n ths) ≡ true → n ≤ length ths → (d : Thread) (i : ℕ) (none : Slot)
+    pub known_at : rows_in_range kind requests 0 (take n ths) ≡ true → n ≤ length ths → (d : Thread) (i : ℕ) (none : Request)
         → i < (get_or ths k d).count → 16 * k + (get_or ths k d).count ≤ length requests
-        → slot_in_range kind (get_or requests (16 * k + i) none) ≡ true
+        → knows kind (get_or requests (16 * k + i) none) ≡ true
     known_at all long d i none h room =
         rw get_or-drop at
-        (first_at (slot_in_range kind) (get_or ths k d).count (drop (16 * k) requests) i
+        (first_at (knows kind) (get_or ths k d).count (drop (16 * k) requests) i
         (rw (get_or-take, zero-add) at (row_at 0 (take n ths) k d all (rw length-take-le below))) h
         (rw length-drop (omega arith)) none)
 
@@ -69,8 +70,8 @@ every_first p d (suc n) [] f = refl
 every_first p d (suc n) (x ∷ l) f = rw (f 0 (omega arith)) (every_first p d n l (λ i h. f (suc i) (omega arith)))
 
 -- the rows of the first n threads pass if each does
-pub rows_first : (kind : Kind) (requests : List Slot) (d : Thread) (i n : ℕ) (ths : List Thread)
-    → ((k : ℕ) → k < n → every (slot_in_range kind) (row_of_thread requests (i + k) (get_or ths k d).count) ≡ true)
+pub rows_first : (kind : Kind) (requests : List Request) (d : Thread) (i n : ℕ) (ths : List Thread)
+    → ((k : ℕ) → k < n → every (knows kind) (row_of_thread requests (i + k) (get_or ths k d).count) ≡ true)
     → rows_in_range kind requests i (take n ths) ≡ true
 rows_first kind requests d i zero ths f = refl
 rows_first kind requests d i (suc n) [] f = refl

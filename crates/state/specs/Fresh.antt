@@ -1,6 +1,7 @@
 -- The fresh machine of document 01, and of document 02, No. 6: all threads idle, no request begun, no copies, the object empty or 0, all counts 0.
 use Rattle.std.specs.Prelude.{ℕ, ◌+◌, false, List, [], ◌∷◌, replicate, None}
 use Rattle.object.specs.declared.Kind.{Kind}
+use Rattle.object.specs.declared.Request.{Request}
 use Rattle.object.specs.Apply.{fresh_object}
 use Rattle.machine.specs.declared.Method.{Method}
 use Rattle.machine.specs.declared.Method.TheVariants.{CcSynch, DsmSynch}
@@ -9,7 +10,6 @@ use Rattle.machine.specs.declared.Node.{Node}
 use Rattle.machine.specs.declared.Thread.{Thread}
 use Rattle.machine.specs.Fields.{null}
 use Rattle.machine.specs.Sizes.{most_locations, most_nodes}
-use Rattle.state.specs.declared.Slot.{Slot}
 use Rattle.state.specs.declared.State.{State}
 
 -- next is null, wait and completed are false, req and ret are empty
@@ -43,7 +43,7 @@ fresh_tail CcSynch = record { 0 = 0 }
 fresh_tail DsmSynch = null
 
 -- the machine of a method, of a file's head, its counts and its requests
-abbrev pub fresh_state_by : Method → Kind → ℕ → ℕ → ℕ → List ℕ → List Slot → State
+abbrev pub fresh_state_by : Method → Kind → ℕ → ℕ → ℕ → List ℕ → List Request → State
 fresh_state_by m kind n h capacity counts requests = record {
   method = m;
   n = n;

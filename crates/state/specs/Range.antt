@@ -14,7 +14,6 @@ use Rattle.machine.specs.declared.Node.{Node}
 use Rattle.machine.specs.declared.Thread.{Thread}
 use Rattle.machine.specs.Fields.{is_null}
 use Rattle.machine.specs.Methods.{last_line, last_node, tail_nullable}
-use Rattle.state.specs.declared.Slot.{Slot}
 use Rattle.state.specs.declared.Counts.{Counts}
 use Rattle.state.specs.declared.State.{State}
 
@@ -67,18 +66,15 @@ ret_in_range capacity (Some answer) = answer_in_range capacity answer
 abbrev pub node_in_range : Kind → ℕ → ℕ → Node → Bool
 node_in_range kind capacity last x = req_in_range kind x.req && ret_in_range capacity x.ret && pointer_in_range last true x.next
 
-abbrev pub slot_in_range : Kind → Slot → Bool
-slot_in_range kind slot = knows kind slot.request
-
 -- the requests of thread i: a row of 16 places each, as many as its count are used
-abbrev pub row_of_thread : List Slot → ℕ → ℕ → List Slot
+abbrev pub row_of_thread : List Request → ℕ → ℕ → List Request
 row_of_thread requests i count = take count (drop (16 * i) requests)
 
 -- the rows of threads, the first of them thread i
-abbrev pub rows_in_range : Kind → List Slot → ℕ → List Thread → Bool
+abbrev pub rows_in_range : Kind → List Request → ℕ → List Thread → Bool
 rows_in_range kind requests i [] = true
 rows_in_range kind requests i (th ∷ ths) =
-    every (slot_in_range kind) (row_of_thread requests i th.count) && rows_in_range kind requests (i + 1) ths
+    every (knows kind) (row_of_thread requests i th.count) && rows_in_range kind requests (i + 1) ths
 
 -- n, h and capacity as in the file, the items held 0 to the capacity. Any object is one of the file's, and its values and sum may be any
 abbrev pub head_in_range : State → Bool

@@ -2,18 +2,13 @@
 #![tactic(auto)]
 
 ghost use Rattle.std.specs.Prelude.{◌≡◌, ◌≤◌, ◌<◌, length, take};
+ghost use Rattle.object.specs.Apply.{knows};
 ghost use Rattle.object.specs.Each.{every};
 ghost use Rattle.machine.specs.Methods.{last_node, tail_nullable};
-ghost use Rattle.state.specs.Range.{pointer_in_range, line_in_range, requests_in_range, cc_pointers_in_range, dsm_pointers_in_range, pointers_in_range, thread_in_range, req_in_range, ret_in_range, node_in_range, slot_in_range, rows_in_range, head_in_range, in_range};
+ghost use Rattle.state.specs.Range.{pointer_in_range, line_in_range, requests_in_range, cc_pointers_in_range, dsm_pointers_in_range, pointers_in_range, thread_in_range, req_in_range, ret_in_range, node_in_range, rows_in_range, head_in_range, in_range};
 
 use machine::{Method, Node, NodeId, Thread};
 use object::{Answer, Kind, Object, Request};
-
-// One place of the rows of requests.
-#[derive(Clone, Copy)]
-pub struct Slot {
-    pub request: Request,
-}
 
 // The five counts: Swaps done, turns begun, blanks, spins and remote references.
 #[derive(Clone, Copy)]
@@ -36,7 +31,7 @@ pub struct State {
     pub tail: NodeId,
     pub threads: [Thread; 16],
     pub nodes: [Node; machine::NODES],
-    pub requests: [Slot; machine::CALLS],
+    pub requests: [Request; machine::CALLS],
     pub copies: [u16; machine::LOCATIONS],
     pub object: Object,
     pub counts: Counts,
@@ -160,16 +155,16 @@ fn nodes_in_range(kind: Kind, capacity: u8, last: u8, nodes: &[Node]) -> bool
 }
 
 // The row of one thread: the first places, as many as its count.
-fn row_in_range(kind: Kind, requests: &[Slot], count: u8) -> bool
-    ensures { result ≡ every (slot_in_range kind) (take count requests.now) }
+fn row_in_range(kind: Kind, requests: &[Request], count: u8) -> bool
+    ensures { result ≡ every (knows kind) (take count requests.now) }
 {
     requests
         .iter()
         .take(count as usize)
-        .all(|slot| object::knows(kind, slot.request))
+        .all(|request| object::knows(kind, *request))
 }
 
-fn rows_in_range(kind: Kind, requests: &[Slot; machine::CALLS], threads: &[Thread]) -> bool
+fn rows_in_range(kind: Kind, requests: &[Request; machine::CALLS], threads: &[Thread]) -> bool
     requires { length threads.now ≤ 16 }
     ensures { result ≡ rows_in_range kind requests.now 0 threads.now }
 {

@@ -11,6 +11,7 @@ use Rattle.object.specs.declared.Answer.TheVariants.{Empty}
 use Rattle.object.specs.declared.Object.{Object}
 use Rattle.object.specs.Apply.{object_in_range, answered}
 use Rattle.object.specs.Each.{Each, every}
+use Rattle.object.specs.Apply.{knows}
 use Rattle.object.proofs.Choice.{either}
 use Rattle.object.proofs.Each.{each_append}
 use Rattle.object.proofs.Plainly.{HoldSame, AnswerSame, same_answered}
@@ -29,8 +30,7 @@ use Rattle.machine.specs.Sizes.{locations_of, most_locations, most_nodes}
 use Rattle.copies.specs.Remote.{place, ends, copies_after, remote_by, referred, referred_by}
 use Rattle.copies.proofs.Holding.{copy_after_lem}
 use Rattle.copies.proofs.References.{copies_stay}
-use Rattle.state.specs.declared.Slot.{Slot}
-use Rattle.state.specs.Range.{req_in_range, slot_in_range, row_of_thread, rows_in_range}
+use Rattle.state.specs.Range.{req_in_range, row_of_thread, rows_in_range}
 use Rattle.state.proofs.RangeFacts.{NodeOrNull, there, nowhere, Begun}
 use Rattle.step.specs.Entry.{zero_thread, zero_node, served_by}
 use Rattle.step.specs.ByMethod.{line_done}
@@ -45,14 +45,14 @@ pub same_set : {A : Type 0} (n : ℕ) (xs ys : List A) → take n xs ≡ take n 
 same_set n xs ys e i a h = take-set-lt n xs i a h ∙ ap (λ l. set l i a) e ∙ sym (take-set-lt n ys i a h)
 
 -- rows that are the same as far as their counts use them are judged alike
-pub same_rows : (kind : Kind) (requests requests' : List Slot) (i n : ℕ) (ths : List Thread)
+pub same_rows : (kind : Kind) (requests requests' : List Request) (i n : ℕ) (ths : List Thread)
     → ((k : ℕ) → k < n → row_of_thread requests (i + k) (get_or ths k zero_thread).count ≡ row_of_thread requests' (i + k) (get_or ths k zero_thread).count)
     → rows_in_range kind requests i (take n ths) ≡ rows_in_range kind requests' i (take n ths)
 same_rows kind requests requests' i zero ths f = refl
 same_rows kind requests requests' i (suc n) [] f = refl
 same_rows kind requests requests' i (suc n) (th ∷ ths) f =
     let next : (k : ℕ) → i + suc k ≡ i + 1 + k = λ k. omega arith in
-    ap₂ ◌&&◌ (ap (every (slot_in_range kind)) (rw add-zero at (f 0 (omega arith))))
+    ap₂ ◌&&◌ (ap (every (knows kind)) (rw add-zero at (f 0 (omega arith))))
     (same_rows kind requests requests' (i + 1) n ths (λ k h. rw (← next k) (f (suc k) (omega arith))))
 
 -- an access to Tail or to a node up to n

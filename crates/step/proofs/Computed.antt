@@ -1,17 +1,17 @@
 -- The step computes, by either method: document 01's counter file with a third add, 63 entries, and one entry more, which is a blank; and two adds of it by
 -- DSM-Synch, 38 entries, and four blanks more. Assumes nothing.
 use Rattle.std.proofs.Common.{◌≡◌, ℕ, List, ◌∷◌, replicate, refl}
+use Rattle.object.specs.declared.Request.{Request}
 use Rattle.object.specs.declared.Kind.TheVariants.{Counter}
 use Rattle.object.specs.declared.Request.TheVariants.{Put, Add}
 use Rattle.machine.specs.declared.Method.{Method}
 use Rattle.machine.specs.declared.Method.TheVariants.{CcSynch, DsmSynch}
-use Rattle.state.specs.declared.Slot.{Slot}
 use Rattle.state.specs.declared.State.{State}
 use Rattle.state.specs.Fresh.{fresh_state_by}
 use Rattle.step.specs.Steps.{steps_of, onward_over}
 
-abbrev pub adds : List Slot
-adds = record { request = Add 5 } ∷ record { request = Add 7 } ∷ record { request = Add 9 } ∷ replicate 253 (record { request = Put 0 })
+abbrev pub adds : List Request
+adds = Add 5 ∷ Add 7 ∷ Add 9 ∷ replicate 253 (Put 0)
 
 -- one thread with so many requests
 abbrev pub start : Method → ℕ → State

@@ -27,7 +27,7 @@ use Rattle.state.specs.declared.State.{State}
 use Rattle.state.specs.Range.{in_range_by, counts_in_range}
 use Rattle.state.specs.Shape.{Shaped}
 use Rattle.state.proofs.RangeFacts.{ThreadFits, state_fits, counts_iff}
-use Rattle.step.specs.Entry.{zero_node, zero_slot, applied_at, more_of, plus, wrapped, named, line, request}
+use Rattle.step.specs.Entry.{zero_node, zero_request, applied_at, more_of, plus, wrapped, named, line, request}
 use Rattle.step.specs.ByMethod.{points_to_by, node_by, behind_by, written_by, event_by, applied_by, effect_by, accesses_by, references_by, counts_after_by, entered_by, out_by}
 use Rattle.step.specs.Step.{Stepped, refused, outcome_by}
 use Rattle.step.proofs.Outcome.{thread_fits, begun_few, goes_through_exactly}
@@ -56,7 +56,7 @@ pub record Called (m : Method) (s : State) (t : ThreadId) (k : ℕ) (r : Row) (p
   pub event_in : ev ≡ event_found r x (eqb s.tail.0 (named s t).tmp.0)
   pub place : c ≡ 16 * t.0 + ((named s t).begun - 1)
   pub applied_at_lem : ob ≡ applied_at ev s.kind s.capacity s.object x.req
-  pub effect_of : e ≡ methods.effect_by m t.0 (named s t) x y s.tail s.h (get_or s.requests c zero_slot).request ob.answer
+  pub effect_of : e ≡ methods.effect_by m t.0 (named s t) x y s.tail s.h (get_or s.requests c zero_request) ob.answer
   pub remote_of_lem : remote ≡ (referred_by m s.n t.0 s.copies (accesses_of r p x.next)).remote
   pub copies_of : copies ≡ (referred_by m s.n t.0 s.copies (accesses_of r p x.next)).copies
   pub written_to : w ≡ written_of r p x.next

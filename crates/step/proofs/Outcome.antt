@@ -28,7 +28,7 @@ use Rattle.state.specs.Shape.{Shaped}
 use Rattle.state.proofs.Kept.{first_set, first_at, rows_stay, known_at}
 use Rattle.state.proofs.Nodes.{node_at}
 use Rattle.state.proofs.RangeFacts.{NodeOrNull, there, nowhere, ThreadFits, thread_iff, NodeFits, node_iff, points_iff, StateFits, state_fits, nodes_there}
-use Rattle.step.specs.Entry.{zero_thread, zero_node, zero_slot, served_by, applied_at, named, line, request, target}
+use Rattle.step.specs.Entry.{zero_thread, zero_node, zero_request, served_by, applied_at, named, line, request, target}
 use Rattle.step.specs.ByMethod.{points_to_by, node_by, behind_by, written_by, event_by, applied_by, effect_by, counts_after_by, entered_by, misses_by, out_by}
 use Rattle.step.specs.Step.{goes_through_by}
 use Rattle.machine.specs.Lines.{stands_at}
@@ -108,7 +108,7 @@ module _ (m : Method) (s : State) (t : ThreadId) (shaped : Shaped s) (range : in
   -- the request of a call that has begun stands in the thread's row
   request_known : 0 < (named s t).begun → knows s.kind (request s t) ≡ true
   request_known b =
-      known_at s.kind s.requests s.n s.threads t.0 below facts.rows room zero_thread ((named s t).begun - 1) zero_slot
+      known_at s.kind s.requests s.n s.threads t.0 below facts.rows room zero_thread ((named s t).begun - 1) zero_request
       (omega (arith, thread_fits.counted)) (omega (arith, facts.small, thread_fits.few, shaped.requests))
 
   -- the answer that a line may write into ret is in range

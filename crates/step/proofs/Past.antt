@@ -24,13 +24,12 @@ use Rattle.machine.specs.Sizes.{locations_of, most_locations}
 use Rattle.copies.specs.Remote.{place, has_copy_of, word_after, copies_after, Referred, referred, referred_by}
 use Rattle.copies.proofs.References.{copies_stay}
 use Rattle.copies.proofs.Valid.{read_past, write_past}
-use Rattle.state.specs.declared.Slot.{Slot}
 use Rattle.state.specs.declared.Counts.{Counts}
 use Rattle.state.specs.declared.State.{State}
 use Rattle.state.specs.Range.{counts_in_range, in_range_by}
 use Rattle.state.specs.Shape.{Shaped}
 use Rattle.state.proofs.RangeFacts.{NodeOrNull, there, nowhere, state_fits}
-use Rattle.step.specs.Entry.{zero_thread, zero_node, zero_slot, more_of, plus, named, line, request, row, target}
+use Rattle.step.specs.Entry.{zero_thread, zero_node, zero_request, more_of, plus, named, line, request, row, target}
 use Rattle.step.specs.ByMethod.{line_points, line_writes, line_accesses, line_event, line_out, points_to_by, node_by, behind_by, written_by, event_by, applied_by, effect_by, accesses_by, references_by, counts_after_by, entered_by, out_by}
 use Rattle.step.specs.Step.{Stepped, refused, goes_through_by, outcome_by, step_by, step_of}
 use Rattle.step.specs.Past.{copies_from, CopiesKept, of_the_other, PastKept, SameCopies, AgreeWithin, used_thread, used_copies, used_state, Agree}
@@ -192,10 +191,9 @@ module _ (m : Method) (s s' : State) (agree : AgreeWithin m s s') where
     -- the request of the thread's call, where it has begun one
     same_request : 0 < (named s t).begun → request s t ≡ request s' t
     same_request b =
-        ap (λ (slot : Slot). slot.request)
-        (rw (get_or-drop, get_or-drop) at (same_at (named s t).count (drop (16 * t.0) s.requests) (drop (16 * t.0) s'.requests)
-        (agree.requests t.0 below) ((named s t).begun - 1) zero_slot (omega (arith, (thread_fits m s t shaped range below).counted))))
-        ∙ ap (λ (th : Thread). (get_or s'.requests (16 * t.0 + (th.begun - 1)) zero_slot).request) same_named
+        rw (get_or-drop, get_or-drop) at (same_at (named s t).count (drop (16 * t.0) s.requests) (drop (16 * t.0) s'.requests)
+        (agree.requests t.0 below) ((named s t).begun - 1) zero_request (omega (arith, (thread_fits m s t shaped range below).counted)))
+        ∙ ap (λ (th : Thread). get_or s'.requests (16 * t.0 + (th.begun - 1)) zero_request) same_named
 
     same_held : HoldSame s.object s'.object
     same_held = record { held = agree.held; plain = rw (← agree.held, agree.items, agree.sum) refl }

@@ -25,10 +25,9 @@ use Rattle.dsm_lines.proofs.Numbers as DsmNumbers
 use Rattle.dsm_synch.specs.Effect as DsmEffect
 use Rattle.copies.specs.Remote.{referred_by}
 use Rattle.copies.proofs.References.{copies_stay}
-use Rattle.state.specs.declared.Slot.{Slot}
 use Rattle.state.specs.declared.State.{State}
 use Rattle.state.specs.Range.{thread_in_range, rows_in_range, in_range_by}
-use Rattle.step.specs.Entry.{zero_thread, zero_node, zero_slot, applied_at, named, line, request}
+use Rattle.step.specs.Entry.{zero_thread, zero_node, zero_request, applied_at, named, line, request}
 use Rattle.step.specs.ByMethod.{line_points, line_writes, line_accesses, line_event, line_done, line_misses, points_to_by, node_by, behind_by, written_by, event_by, applied_by, effect_by, accesses_by, references_by, entered_by, misses_by}
 use Rattle.step.specs.Step.{Stepped, refused, goes_through_by, outcome_by, step_by}
 use Rattle.step.specs.Past.{of_the_other, used_thread, used_copies, used_state}
@@ -118,7 +117,7 @@ every_map p f e zero l = refl
 every_map p f e (suc n) [] = refl
 every_map p f e (suc n) (x ∷ l) = ap₂ ◌&&◌ (e x) (every_map p f e n l)
 
-rows_map : (m : Method) (kind : Kind) (requests : List Slot) (i n : ℕ) (ths : List Thread)
+rows_map : (m : Method) (kind : Kind) (requests : List Request) (i n : ℕ) (ths : List Thread)
     → rows_in_range kind requests i (take n (map (used_thread m) ths)) ≡ rows_in_range kind requests i (take n ths)
 rows_map m kind requests i zero ths = refl
 rows_map m kind requests i (suc n) [] = refl
@@ -159,7 +158,7 @@ module _ (m : Method) (s : State) (t : ThreadId) where
 
   request_without : request u t ≡ request s t
   request_without =
-      ap (λ (begun : ℕ). (get_or s.requests (16 * t.0 + (begun - 1)) zero_slot).request) (ap (λ (th : Thread). th.begun) named_without ∙ used_begun m (named s t))
+      ap (λ (begun : ℕ). get_or s.requests (16 * t.0 + (begun - 1)) zero_request) (ap (λ (th : Thread). th.begun) named_without ∙ used_begun m (named s t))
 
   applied_without : applied_by m u t ≡ applied_by m s t
   applied_without = ap₂ (λ (event : Event) (x : Node). applied_at event s.kind s.capacity s.object x.req) event_without node_without

@@ -20,7 +20,6 @@ use Rattle.cc_lines.specs.Lines.{line_of, row_of, accesses_by, event_in}
 use Rattle.machine.specs.Lines.{line_run}
 use Rattle.cc_synch.specs.Effect.{executed}
 use Rattle.copies.specs.Remote.{Referred, referred}
-use Rattle.state.specs.declared.Slot.{Slot}
 use Rattle.state.specs.declared.Counts.{Counts}
 use Rattle.state.specs.declared.State.{State}
 
@@ -48,8 +47,8 @@ abbrev pub zero_node : Node
 zero_node = record { req = None; ret = None; wait = false; completed = false; next = zero_node_id }
 
 -- also what stands at the start on the places past a thread's count
-abbrev pub zero_slot : Slot
-zero_slot = record { request = Put 0 }
+abbrev pub zero_request : Request
+zero_request = Put 0
 
 -- the object's answer to a node's req, and the object after it; the use of an empty req is 14
 abbrev pub served_by : Kind → ℕ → Object → Option Request → Applied
@@ -119,7 +118,7 @@ module _ (s : State) (t : ThreadId) where
   line = line_run named
 
   abbrev pub request : Request
-  request = (get_or s.requests (16 * t.0 + (named.begun - 1)) zero_slot).request
+  request = get_or s.requests (16 * t.0 + (named.begun - 1)) zero_request
 
 -- what the entry of a thread does in a state by CC-Synch
 module _ (s : State) (t : ThreadId) where

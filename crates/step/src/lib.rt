@@ -138,7 +138,7 @@ fn enter(state: State, thread: ThreadId) -> Result<State, Refusal>
     let behind = node_at(state.nodes, methods::node_behind(method, next));
     let event = machine::event_in(row, node, tail.0 == named.tmp.0);
     let place = call_place(thread, named.begun);
-    let request = state.requests[place].request;
+    let request = state.requests[place];
     let applied = applied_at(event, state.kind, state.capacity, object, node.req);
     let (answer, object_after) = applied.unwrap_or((Answer::Empty, object));
     let done = methods::run_line(

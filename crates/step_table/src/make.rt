@@ -1,7 +1,7 @@
 // States: document 01's start, a state in use whose numbers past n are out of range, and a state with one part changed.
 use machine::{Method, Node, NodeId, Thread};
 use object::{Answer, Kind, Object, Request};
-use state::{Counts, Slot, State};
+use state::{Counts, State};
 
 // A change: which field, where, and to what. A letter stands for a field, as in the script's text: an enum of the fields would name each of the forty letters once
 // more, in a conversion, and no match here would get shorter.
@@ -61,9 +61,9 @@ impl Word {
         }
     }
 
-    fn set_slot(self, kind: Kind, slot: &mut Slot) {
+    fn set_request(self, kind: Kind, request: &mut Request) {
         if matches!(self.field, b'P' | b'G' | b'A' | b'K') {
-            slot.request = self.request(kind);
+            *request = self.request(kind);
         }
     }
 
@@ -109,8 +109,8 @@ impl Word {
         if let Some(node) = state.nodes.get_mut(at) {
             self.set_node(kind, node);
         }
-        if let Some(slot) = state.requests.get_mut(at) {
-            self.set_slot(kind, slot);
+        if let Some(request) = state.requests.get_mut(at) {
+            self.set_request(kind, request);
         }
         self.set_copies(&mut state.copies);
     }
@@ -146,9 +146,7 @@ pub(crate) fn started(method: Method, kind: Kind, n: u8, count: u8) -> State {
         completed: false,
         next: NodeId(255),
     };
-    let slot = Slot {
-        request: object::request_of(object::least_code(kind), 5),
-    };
+    let request = object::request_of(object::least_code(kind), 5);
     State {
         method,
         n,
@@ -158,7 +156,7 @@ pub(crate) fn started(method: Method, kind: Kind, n: u8, count: u8) -> State {
         tail: NodeId(0),
         threads: [thread; 16],
         nodes: [node; machine::NODES],
-        requests: [slot; machine::CALLS],
+        requests: [request; machine::CALLS],
         copies: [0; machine::LOCATIONS],
         object: object::fresh(),
         counts: Counts {
@@ -198,7 +196,7 @@ pub(crate) fn strange(method: Method, kind: Kind) -> State {
     State {
         threads: [thread; 16],
         nodes: [node; machine::NODES],
-        requests: [Slot { request }; machine::CALLS],
+        requests: [request; machine::CALLS],
         object: filled(),
         ..started(method, kind, 3, 0)
     }

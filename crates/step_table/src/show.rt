@@ -3,7 +3,7 @@ use crate::make::Word;
 use console::Output;
 use machine::{Node, Thread, ThreadId};
 use object::{Answer, Object, Request};
-use state::{Counts, Slot, State};
+use state::{Counts, State};
 use std::fmt;
 use std::fmt::{Display, Formatter};
 
@@ -108,10 +108,13 @@ fn node(output: &mut Output, i: usize, a: Node, b: Node) {
     place(output, format_args!("node{i}.next"), a.next.0, b.next.0);
 }
 
-fn slot(output: &mut Output, i: usize, a: Slot, b: Slot) {
-    let before = Req(Some(a.request));
-    let after = Req(Some(b.request));
-    place(output, format_args!("request{i}"), before, after);
+fn request(output: &mut Output, i: usize, a: Request, b: Request) {
+    place(
+        output,
+        format_args!("request{i}"),
+        Req(Some(a)),
+        Req(Some(b)),
+    );
 }
 
 fn copies(output: &mut Output, i: usize, a: u16, b: u16) {
@@ -140,7 +143,7 @@ fn differences(output: &mut Output, a: &State, b: &State) {
     head(output, a, b);
     row(output, &a.threads, &b.threads, thread);
     row(output, &a.nodes, &b.nodes, node);
-    row(output, &a.requests, &b.requests, slot);
+    row(output, &a.requests, &b.requests, request);
     row(output, &a.copies, &b.copies, copies);
     object(output, &a.object, &b.object);
     counts(output, a.counts, b.counts);

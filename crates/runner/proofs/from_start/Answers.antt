@@ -32,7 +32,7 @@ use Rattle.methods.proofs.Rows.{all_rows, row_at}
 use Rattle.copies.specs.Remote.{Referred, referred_by}
 use Rattle.state.specs.declared.Counts.{Counts}
 use Rattle.state.specs.declared.State.{State}
-use Rattle.step.specs.Entry.{zero_node, zero_slot, more_of, named, line, served_by, applied_at}
+use Rattle.step.specs.Entry.{zero_node, zero_request, more_of, named, line, served_by, applied_at}
 use Rattle.step.specs.ByMethod.{node_by}
 use Rattle.step.proofs.Entering.{Called}
 use Rattle.step.proofs.Numbers.{fails}
@@ -60,7 +60,7 @@ behind m s x = get_or s.nodes (behind_by m x.next).0 zero_node
 
 abbrev answered : Method → State → ThreadId → Node → Event → ℕ → Effect
 answered m s t x ev c =
-    effect_by m t.0 (named s t) x (behind m s x) s.tail s.h (get_or s.requests c zero_slot).request (applied_at ev s.kind s.capacity s.object x.req).answer
+    effect_by m t.0 (named s t) x (behind m s x) s.tail s.h (get_or s.requests c zero_request) (applied_at ev s.kind s.capacity s.object x.req).answer
 
 -- what is answered of the line, as an effect
 abbrev said : State → ThreadId → Node → Result After Refusal → Effect
@@ -126,12 +126,12 @@ module _ {bytes : List ℕ} {start : State} {m : Method} {rows : List Row} {spin
 
     -- what the line does: no test of 14 in CC-Synch, that of `run_line` in DSM-Synch
     by_cc : {e : Effect} {answer : Answer} {J : State} → Serves s J answer (applied_at ev s.kind s.capacity s.object x.req) → m ≡ CcSynch
-        → e ≡ CcEffect.wrapped (CcEffect.executed (named s t) x s.tail h (get_or s.requests c zero_slot).request answer (CcLines.line_of k)) → e ≡ answered m s t x ev c
-    by_cc served is e = cc_answers m now.file bytes now.fits now.running inside x (get_or s.requests c zero_slot).request now.limit served.answers is read.line_is node_so e
+        → e ≡ CcEffect.wrapped (CcEffect.executed (named s t) x s.tail h (get_or s.requests c zero_request) answer (CcLines.line_of k)) → e ≡ answered m s t x ev c
+    by_cc served is e = cc_answers m now.file bytes now.fits now.running inside x (get_or s.requests c zero_request) now.limit served.answers is read.line_is node_so e
 
     by_dsm : {e : Effect} {y : Node} {answer : Answer} {J : State} → Serves s J answer (applied_at ev s.kind s.capacity s.object x.req) → m ≡ DsmSynch
-        → y ≡ get_or s.nodes x.next.0 zero_node → e ≡ DsmEffect.effect_of t.0 (named s t) x y s.tail h (get_or s.requests c zero_slot).request answer → e ≡ answered m s t x ev c
-    by_dsm served is at e = dsm_answers m now.file bytes now.fits now.running inside x (get_or s.requests c zero_slot).request now.limit served.answers is at e
+        → y ≡ get_or s.nodes x.next.0 zero_node → e ≡ DsmEffect.effect_of t.0 (named s t) x y s.tail h (get_or s.requests c zero_request) answer → e ≡ answered m s t x ev c
+    by_dsm served is at e = dsm_answers m now.file bytes now.fits now.running inside x (get_or s.requests c zero_request) now.limit served.answers is at e
 
 -- a thread that spins waits at one of the nodes
 waited_below : (c : After-spin_node-waited) → c.spin_node-waited.result.0 < most_nodes

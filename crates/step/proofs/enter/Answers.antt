@@ -13,7 +13,7 @@ use Rattle.copies.specs.Remote.{referred_by}
 use Rattle.state.specs.declared.Counts.{Counts}
 use Rattle.state.specs.Shape.{Shaped}
 use Rattle.state.specs.Range.{counts_in_range}
-use Rattle.step.specs.Entry.{zero_node, zero_slot, more_of, plus, named}
+use Rattle.step.specs.Entry.{zero_node, zero_request, more_of, plus, named}
 use Rattle.step.specs.Step.{refused}
 use Rattle.step.proofs.Entering.{place_few, Called, line_refused, counts_refused, accepted}
 use Rattle.step.proofs.Numbers.{fails, counts_past, counts_fit}
@@ -45,7 +45,7 @@ called c effect remote copies written more = record {
   effect_of =
       let s = c.args.state in
       effect ∙ c.run_line.ensures
-      ∙ ap (λ (answer : Answer). effect_by s.method c.args.thread.0 (named s c.args.thread) c.node_at-node.result c.node_at-behind.result s.tail s.h (get_or s.requests c.call_place-place.result zero_slot).request answer)
+      ∙ ap (λ (answer : Answer). effect_by s.method c.args.thread.0 (named s c.args.thread) c.node_at-node.result c.node_at-behind.result s.tail s.h (get_or s.requests c.call_place-place.result zero_request) answer)
       (ap (λ (given : Answer × Object). given.0) c.unwrap_or-answer.ensures ∙ taken_answer s.object c.applied_at-applied.result);
   remote_of_lem = remote;
   copies_of = copies;
