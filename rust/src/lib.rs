@@ -2,7 +2,7 @@
 //!
 //! Each function takes any bytes and any lent buffer, and answers a result or a [`Refusal`]. A refusal leaves the buffer as it was;
 //! otherwise what is written stands from the buffer's first byte on, and every later byte is as it was. The functions may be
-//! called from several threads at once. [`run`] needs 40 KiB of stack, [`list`] 80 KiB, [`page`] 64 KiB.
+//! called from several threads at once. [`run`] needs 56 KiB of stack, [`list`] 96 KiB, [`page`] 80 KiB.
 //!
 //! What the library promises of its answers is proved, for every file and every schedule; this package, the linker and the
 //! compiler are not part of that proof. The file's layout, the record of a call and what a remote reference is stand in `include/ccs.h`;
