@@ -91,7 +91,7 @@ fn line_does(
 fn empties(tail: NodeId, tmp: NodeId) -> bool
     ensures { result ≡ empties tail tmp }
 {
-    tail.0 == tmp.0
+    tail == tmp
 }
 
 fn cas(tail: NodeId, tmp: NodeId) -> NodeId

@@ -68,7 +68,8 @@ fn from_start(schedule: &[u8], start: State) -> Result<Played, Refusal>
         }
         let req = node.req;
         let next = node.next;
-        let event = machine::event_in(row, node, tail.0 == tmp.0);
+        let emptied = tail == tmp;
+        let event = machine::event_in(row, node, emptied);
         let applies = event == Event::Applies;
         let place = step::call_place(thread, named.begun);
         let request = state.requests[place];

@@ -136,7 +136,8 @@ fn enter(state: State, thread: ThreadId) -> Result<State, Refusal>
     let node = node_at(state.nodes, target);
     let next = node.next;
     let behind = node_at(state.nodes, methods::node_behind(method, next));
-    let event = machine::event_in(row, node, tail.0 == named.tmp.0);
+    let emptied = tail == named.tmp;
+    let event = machine::event_in(row, node, emptied);
     let place = call_place(thread, named.begun);
     let request = state.requests[place];
     let applied = applied_at(event, state.kind, state.capacity, object, node.req);

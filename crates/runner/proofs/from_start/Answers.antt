@@ -157,7 +157,9 @@ read c =
             | then-m-lt-NODES w ↦ w.node-is
             | else-m-lt-NODES w ↦ read_there nodes (w.node-is ∙ c.zero_node-node.ensures) (omega (arith, long now c.loop-i-test.true, w.if-m-lt-NODES.false))
           ];
-      event_is = c.event_in-event.ensures;
+      event_is =
+          c.event_in-event.ensures
+          ∙ ap (event_found (get_or c.all_rows-rows.result c.line_run-line.result (row_by CcSynch 0)) c.if-m-lt-NODES.node) c.eq-emptied.ensures;
       place_is = c.call_place-place.ensures;
     }
 

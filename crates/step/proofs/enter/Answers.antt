@@ -1,5 +1,5 @@
 -- What the calls answered makes the outcome. Assumes nothing.
-use Rattle.std.proofs.Common.{◌≡◌, ℕ, List, get_or, sym, refl, ap, ◌∙◌, rules}
+use Rattle.std.proofs.Common.{◌≡◌, ℕ, List, get_or, sym, refl, ap, ◌∙◌, rules, arith}
 use Rattle.std.proofs.lemmas.Result.{err_from_is_err_and}
 use Rattle.object.specs.declared.Answer.{Answer}
 use Rattle.object.specs.declared.Object.{Object}
@@ -7,6 +7,7 @@ use Rattle.object.specs.Apply.{as_applied}
 use Rattle.object.proofs.Taken.{taken_answer, taken_object}
 use Rattle.machine.specs.declared.NodeId.{NodeId}
 use Rattle.machine.specs.Accesses.{accesses_of, written_of}
+use Rattle.machine.specs.Events.{event_found}
 use Rattle.machine.specs.Effect.{Effect, as_effect}
 use Rattle.methods.specs.Methods.{effect_by}
 use Rattle.copies.specs.Remote.{referred_by}
@@ -39,7 +40,7 @@ called c effect remote copies written more = record {
   pointed_to = c.pointed-target.ensures;
   node_at = c.node_at-node.ensures;
   behind_at = c.node_at-behind.ensures ∙ ap (λ (m : NodeId). get_or c.args.state.nodes m.0 zero_node) c.node_behind.ensures;
-  event_in = c.event_in-event.ensures;
+  event_in = c.event_in-event.ensures ∙ ap (event_found c.row_of-row.result c.node_at-node.result) c.eq-emptied.ensures;
   place = c.call_place-place.ensures;
   applied_at_lem = c.applied_at-applied.ensures;
   effect_of =
@@ -57,6 +58,12 @@ pub bounds-state-place : goal.bounds-state-place
 bounds-state-place c =
     let s = c.args.state in
     place_few s.method s c.args.thread (shaped (goal.at.bounds-state-place c).After-call_place-place) c.requires.0 c.requires.1 c.call_place-place.ensures
+
+pub offset_bounds-state-place : goal.offset_bounds-state-place
+offset_bounds-state-place c =
+    let s = c.args.state in
+    omega
+    (arith, place_few s.method s c.args.thread (shaped (goal.at.offset_bounds-state-place c).After-call_place-place) c.requires.0 c.requires.1 c.call_place-place.ensures)
 
 pub returns-in_err-done : goal.returns-in_err-done
 returns-in_err-done c =
