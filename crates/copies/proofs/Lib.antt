@@ -1,4 +1,5 @@
 pub mod Bits
+pub mod ByPlace
 pub mod Holding
 pub mod Owners
 pub mod References
