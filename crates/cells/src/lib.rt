@@ -94,7 +94,7 @@ fn mark_word(ret: Option<Answer>) -> Word
     }
 }
 
-// The count of a done put or the value of a response, a hyphen where it is neither.
+// The count of a done put or the value of a response, a hyphen where it is neither: by `let .. else`, as document 01 names the form.
 fn value_cell(ret: Option<Answer>) -> Cell
     ensures { result ≡ value_cell ret }
 {
@@ -183,7 +183,8 @@ fn record_cells(order: u32, bytes: &[u8]) -> [Cell; 11]
     ]
 }
 
-// A text of at most N bytes. What is laid goes behind what stands there.
+// A text of at most N bytes. What is laid goes behind what stands there. By methods of its own and not by `write!`: every byte is promised, and a text too long is
+// cut without an error.
 #[derive(Drop)]
 pub struct Text<const N: usize> {
     bytes: [u8; N],
