@@ -1,9 +1,9 @@
--- The bytes that std makes of a test and of a number, the lowest first, are the paper's. Assumes nothing.
+-- The bytes that std makes of a test and of a number of 32 bits, the lowest first, are the paper's; of 16 bits: `two_bytes` of `bench_writer`. Assumes nothing.
 use Prim.Native.Nat.{ℕ, ◌/◌, ◌%◌}
 use native.Mathlib.Omega.{arith}
 use mathlib.Core.Path.{◌≡◌, refl}
 use mathlib.Core.Bool.{Bool, true, false}
-use Rattle.std.specs.Int.{from_bool, to_le_bytes, w16, w32}
+use Rattle.std.specs.Int.{from_bool, to_le_bytes, w32}
 use Rattle.bench_file.specs.Bytes.{low_first}
 use Rattle.step.specs.Entry.{one_if}
 
@@ -20,7 +20,3 @@ four_bytes number = rw (third, fourth)
 
     fourth : number / 16777216 % 256 ≡ number / 256 / 256 / 256 % 256
     fourth = omega arith
-
-pub two_bytes : (number : ℕ) → to_le_bytes w16 number ≡ low_first 2 number
-unfolding low_first
-two_bytes number = refl

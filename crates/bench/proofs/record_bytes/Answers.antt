@@ -1,7 +1,8 @@
 -- The bytes of a record, field by field. Assumes nothing.
 use Rattle.std.proofs.Common.{not, eqb, ◌∙◌}
 use Rattle.history.specs.Terms.{no_entry}
-use Rattle.bench.proofs.Spelled.{one_or_none, four_bytes, two_bytes}
+use Rattle.bench_writer.proofs.Spelled.{two_bytes}
+use Rattle.bench.proofs.Spelled.{one_or_none, four_bytes}
 use Rattle.bench.proofs.record_bytes.Goals as goal
 
 pub returns : goal.returns
