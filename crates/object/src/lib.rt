@@ -164,11 +164,18 @@ pub fn code_known(kind: Kind, code: u8) -> bool
     between(least_code(kind), code, most_code(kind))
 }
 
-// A take's value is 0.
+// The greatest value of a put, of a take and of an add.
+const MOST_VALUES: [u32; 3] = [u32::MAX, 0, u32::MAX];
+
+// A take's value is 0. Looked up and not tested: a test of the code is a jump, which a processor may guess wrong where puts and takes change often.
 pub fn value_allowed(code: u8, value: u32) -> bool
     ensures { result ≡ value_allowed code value }
 {
-    code != 1 || value == 0
+    let place = usize::from(code);
+    if place < MOST_VALUES.len() {
+        return value <= MOST_VALUES[place];
+    }
+    true
 }
 
 // The capacities that a kind allows reach from the least to the most.

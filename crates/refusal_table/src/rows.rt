@@ -1,4 +1,6 @@
 // The writer's rows and the lent buffer at their limits, and several faults at once.
+ghost use Rattle.std.specs.Prelude.{◌<◌, length};
+
 use crate::show;
 use crate::show::first;
 use bench_writer::Given;
@@ -25,9 +27,11 @@ struct Case {
 }
 
 // A row of bytes becomes a pattern repeated.
-fn fill(row: &mut [u8], pattern: &[u8]) {
-    for (slot, byte) in row.iter_mut().zip(pattern.iter().cycle()) {
-        *slot = *byte;
+fn fill(row: &mut [u8], pattern: &[u8])
+    requires { 0 < length pattern.now }
+{
+    for (i, slot) in row.iter_mut().enumerate() {
+        *slot = pattern[i % pattern.len()];
     }
 }
 
