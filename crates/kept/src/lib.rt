@@ -90,6 +90,13 @@ fn note(numbers: &mut [u16], at: usize, number: usize)
     }
 }
 
+// The place of the call that a node is given to, where places are noted node by node, of any number of nodes; past them, where no node is given, 0.
+pub fn given_at(given: &[u16], node: NodeId) -> u16
+    ensures { result ≡ slice_index given.now node.0 }
+{
+    given.get(node.0 as usize).copied().unwrap_or(0)
+}
+
 // What a run notes beside what it keeps of its calls, each by a number of its own: the turn of a thread, the call that a node is given to, and the calls' places in
 // Swap order. All of it has a fixed size.
 #[derive(Clone, Copy)]
@@ -115,7 +122,7 @@ impl Notes {
     pub fn given_at(&self, node: NodeId) -> u16
         ensures { result ≡ slice_index self.now.given node.0 }
     {
-        self.given.get(node.0 as usize).copied().unwrap_or(0)
+        given_at(&self.given, node)
     }
 
     // What an entry notes: the beginning of a turn its thread's turn, numbered by those begun before; a Swap the place of its call, with the node that it
