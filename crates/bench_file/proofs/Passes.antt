@@ -58,11 +58,11 @@ module _ {A : Type 0} (reader : Reader A) (tally : A → ℕ) where
   several_tallied zero bs = refl
   several_tallied (suc count) bs = several_after count (reader bs) (several_tallied count)
 
-module _ (reader : Reader ℕ) where
-  -- what is left of so many, of which i were read and counted, at a place
-  abbrev pub left_to : List ℕ → ℕ → ℕ → ℕ → ℕ → Outcome ℕ
-  left_to s count i sum next = tallied (λ l. sum + sum_of same l) (several (count - i) reader (drop next s))
+-- what is left of so many, of which i were read and tallied, at a place
+abbrev pub left_to : {A : Type 0} → Reader A → (A → ℕ) → List ℕ → ℕ → ℕ → ℕ → ℕ → Outcome ℕ
+left_to reader tally s count i sum next = tallied (λ l. sum + sum_of tally l) (several (count - i) reader (drop next s))
 
+module _ (reader : Reader ℕ) where
   pass : (k sum x : ℕ) (bs mid : List ℕ) → reader bs ≡ read x mid
       → tallied (λ l. sum + sum_of same l) (several (suc k) reader bs) ≡ tallied (λ l. sum + x + sum_of same l) (several k reader mid)
   unfolding several sum_of
@@ -75,20 +75,20 @@ module _ (reader : Reader ℕ) where
   halt k sum refusal bs e = rw e
 
   module _ (s : List ℕ) (count : ℕ) where
-    left_all : tallied (sum_of same) (several count reader s) ≡ left_to s count 0 0 0
+    left_all : tallied (sum_of same) (several count reader s) ≡ left_to reader same s count 0 0 0
     left_all = rw sub-zero (tallied_same (sum_of same) (λ l. 0 + sum_of same l) (several count reader s) (λ l. omega arith))
 
-    left_more : (i sum next x mid : ℕ) → i < count → reader (drop next s) ≡ read x (drop mid s) → left_to s count i sum next ≡ left_to s count (i + 1) (sum + x) mid
+    left_more : (i sum next x mid : ℕ) → i < count → reader (drop next s) ≡ read x (drop mid s) → left_to reader same s count i sum next ≡ left_to reader same s count (i + 1) (sum + x) mid
     left_more i sum next x mid h e =
         let k : count - i ≡ suc (count - (i + 1)) = omega arith in
         rw k (pass (count - (i + 1)) sum x (drop next s) (drop mid s) e)
 
-    left_refused : (i sum next refusal : ℕ) → i < count → reader (drop next s) ≡ refused refusal → left_to s count i sum next ≡ refused refusal
+    left_refused : (i sum next refusal : ℕ) → i < count → reader (drop next s) ≡ refused refusal → left_to reader same s count i sum next ≡ refused refusal
     left_refused i sum next refusal h e =
         let k : count - i ≡ suc (count - (i + 1)) = omega arith in
         rw k (halt (count - (i + 1)) sum refusal (drop next s) e)
 
-    left_none : (i sum next : ℕ) → count ≤ i → left_to s count i sum next ≡ read sum (drop next s)
+    left_none : (i sum next : ℕ) → count ≤ i → left_to reader same s count i sum next ≡ read sum (drop next s)
     unfolding several sum_of
     left_none i sum next h = let k : count - i ≡ 0 = omega arith in rw (k, add-zero)
 
@@ -99,7 +99,7 @@ module _ (answers : Bor (List ℕ) → Result Reached Refusal → Type 0) (s : L
 
   pub record Passing (next sum i : ℕ) : Type 0 where
     pub ahead : (sum ≤ next) × (next ≤ length s)
-    pub left : (reader : Reader ℕ) → ReadsAs reader → tallied (sum_of same) (several count reader s) ≡ left_to reader s count i sum next
+    pub left : (reader : Reader ℕ) → ReadsAs reader → tallied (sum_of same) (several count reader s) ≡ left_to reader same s count i sum next
 
   pub begins : Passing 0 0 0
   begins = record { ahead = omega arith; left = λ reader reads. left_all reader s count }

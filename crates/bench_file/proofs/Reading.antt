@@ -79,15 +79,22 @@ low_at [] (suc at) width = rw (take-nil width)
 low_at (b ∷ s) zero width = refl
 low_at (b ∷ s) (suc at) width = low_at s at width
 
--- the numbers of two and of four bytes, as std reads them
+-- the numbers of two and of four bytes, and that they are those that std reads
 module _ (s : List ℕ) (at : ℕ) where
-  pub two_at : from_le_bytes w16 (get_or s at 0 ∷ get_or s (at + 1) 0 ∷ []) ≡ little_endian (take 2 (drop at s))
+  pub two_at : little_endian (take 2 (drop at s)) ≡ get_or s at 0 + 256 * get_or s (at + 1) 0
   unfolding little_endian
   two_at = rw add-one (omega (arith, low_at s at 1, low_at s (suc at) 0))
 
-  pub four_at : from_le_bytes w32 (get_or s at 0 ∷ get_or s (at + 1) 0 ∷ get_or s (at + 2) 0 ∷ get_or s (at + 3) 0 ∷ []) ≡ little_endian (take 4 (drop at s))
+  pub four_at : little_endian (take 4 (drop at s)) ≡ little_endian (take 2 (drop at s)) + 65536 * little_endian (take 2 (drop (at + 2) s))
   unfolding little_endian
-  four_at = rw (add-one, add-two, add-three) (omega (arith, low_at s at 3, low_at s (suc at) 2, low_at s (suc (suc at)) 1, low_at s (suc (suc (suc at))) 0))
+  four_at = rw add-two (omega (arith, low_at s at 3, low_at s (suc at) 2, low_at s at 1, low_at s (suc at) 0))
+
+  pub two_read : from_le_bytes w16 (get_or s at 0 ∷ get_or s (at + 1) 0 ∷ []) ≡ little_endian (take 2 (drop at s))
+  two_read = omega (arith, two_at)
+
+  pub four_read : from_le_bytes w32 (get_or s at 0 ∷ get_or s (at + 1) 0 ∷ get_or s (at + 2) 0 ∷ get_or s (at + 3) 0 ∷ []) ≡ little_endian (take 4 (drop at s))
+  unfolding little_endian
+  four_read = rw (add-one, add-two, add-three) (omega (arith, low_at s at 3, low_at s (suc at) 2, low_at s (suc (suc at)) 1, low_at s (suc (suc (suc at))) 0))
 
 -- what a refusal's number says of the outcome that it stands for
 pub went_on : (s : List ℕ) (next : ℕ) {refusal : ℕ} {o : Outcome Unit} → number_read s next refusal ≡ o → refusal ≡ 0 → o ≡ read tt (drop next s)

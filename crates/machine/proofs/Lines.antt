@@ -1,11 +1,13 @@
 -- Laws of printed lines and their numbers, for the lines of either method: a list of them, a blank first, numbered from 0; and which one a thread runs. Assumes what
 -- the laws' premises say.
 use Prim.Native.Nat.{ℕ, zero, suc, ◌+◌, ◌≤◌, ◌<◌}
+use native.Mathlib.Numerals.{add-one}
 use native.Mathlib.Omega.{arith}
 use mathlib.Core.Path.{◌≡◌, sym, ap, subst, ◌∙◌}
 use mathlib.Core.List.{List, [], ◌∷◌, map}
 use lib.ListN.{length, get_or, get_or-map}
 use borrow.Author.Tests.{ne_eqb, lt-ltb, le-ltb, lt-leb}
+use Rattle.std.proofs.lemmas.List.{get_or-map as get_or-map_below}
 use Rattle.object.specs.Each.{Each}
 use Rattle.object.proofs.Choice.{by_equal, by_order}
 use Rattle.object.proofs.Each.{each_get_or_default}
@@ -42,10 +44,15 @@ module _ {Line : Type 0} (number : Line → ℕ) (blank : Line) where
     pub by_number : (P : Line → Type 0) (l : Line) {k : ℕ} → number l ≡ k → P (get_or lines k blank) → P l
     by_number P l q p = subst P (sym (ap (λ (k : ℕ). get_or lines k blank) q) ∙ line_at_lem l) p
 
+-- place k of a table of the printed lines holds what is beside line k + 1; past the table stands `none`
+pub table_at : {Line A : Type 0} (f : Line → A) (blank : Line) (none : A) (printed : List Line) (k : ℕ) → k < length printed
+    → get_or (map f printed) k none ≡ f (get_or (blank ∷ printed) (k + 1) blank)
+table_at f blank none printed k h = rw add-one (get_or-map_below f printed k blank none h)
+
 -- a table of the printed lines, with what a blank has before it and past it, holds at each place what its line has
-pub table_at : {Line A : Type 0} (f : Line → A) (blank : Line) (printed : List Line) (k : ℕ)
+pub table_with_blank : {Line A : Type 0} (f : Line → A) (blank : Line) (printed : List Line) (k : ℕ)
     → get_or (f blank ∷ map f printed) k (f blank) ≡ f (get_or (blank ∷ printed) k blank)
-table_at f blank printed k = get_or-map f (blank ∷ printed) k blank
+table_with_blank f blank printed k = get_or-map f (blank ∷ printed) k blank
 
 -- a thread that stands at line 0, or at one from 2 to the last printed, runs the one that it stands at; idle, line 1 if it has a request left, else none
 pub record RunsNext (th : Thread) (last : ℕ) : Type 0 where

@@ -136,7 +136,7 @@ pub struct After {
     pub tail: NodeId,
 }
 
-// The number of a method, and the method of a number.
+// The number of a method.
 impl From<Method> for u8 {
     ghost from_gives = { λ method number. number ≡ method_number method };
 

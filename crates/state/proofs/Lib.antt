@@ -3,3 +3,4 @@ pub mod Kept
 pub mod Nodes
 pub mod RangeFacts
 pub mod Threads
+pub mod Walks

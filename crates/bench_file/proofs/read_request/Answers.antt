@@ -3,7 +3,7 @@ use Rattle.std.proofs.Common.{ℕ, sym, ◌∙◌, ap}
 use Rattle.refusal.proofs.Numbers.{passed_on}
 use Rattle.object.specs.Paper.{value_allowed}
 use Rattle.bench_file.specs.Layout.{request_reader}
-use Rattle.bench_file.proofs.Reading.{four_at}
+use Rattle.bench_file.proofs.Reading.{four_read}
 use Rattle.bench_file.proofs.Request.{request_cut, request_allowed, request_denied}
 use Rattle.bench_file.proofs.read_request.Goals as goal
 
@@ -22,12 +22,12 @@ pub returns-then-value_allowed-clause-result_value : goal.returns-then-value_all
 returns-then-value_allowed-clause-result_value c =
     let s = c.args.s.now in
     let code = rw (c.least_code-least.ensures, c.most_code-most.ensures) at (sym c.in_ok-code.ensures.result_value) in
-    let value = c.from_le_bytes-value.ensures ∙ four_at s 1 in
+    let value = c.from_le_bytes-value.ensures ∙ four_read s 1 in
     rw (request_allowed s c.args.object code c.if-s-lt5.false (ap (λ (v : ℕ). value_allowed c.in_ok-code.code v) (sym value) ∙ sym c.value_allowed.ensures ∙ c.if-value_allowed.true))
 
 pub returns-clause-result_value : goal.returns-clause-result_value
 returns-clause-result_value c =
     let s = c.args.s.now in
     let code = rw (c.least_code-least.ensures, c.most_code-most.ensures) at (sym c.in_ok-code.ensures.result_value) in
-    let value = c.from_le_bytes-value.ensures ∙ four_at s 1 in
+    let value = c.from_le_bytes-value.ensures ∙ four_read s 1 in
     rw (request_denied s c.args.object code c.if-s-lt5.false (ap (λ (v : ℕ). value_allowed c.in_ok-code.code v) (sym value) ∙ sym c.value_allowed.ensures ∙ c.if-value_allowed.false))

@@ -7,7 +7,7 @@ use Rattle.object.specs.Each.{sum_of}
 use Rattle.bench_file.specs.Reading.{little_endian, several}
 use Rattle.bench_file.specs.Layout.{entry_reader, schedule_reader}
 use Rattle.bench_file.specs.Cursor.{tallied, single}
-use Rattle.bench_file.proofs.Reading.{field_whole, field_cut, two_at}
+use Rattle.bench_file.proofs.Reading.{field_whole, field_cut, two_read}
 use Rattle.bench_file.proofs.Passes.{tallied_same, single_length, behind}
 use Rattle.bench_file.proofs.read_schedule.Goals as goal
 
@@ -24,18 +24,18 @@ returns-then-s-lt2-clause-result_value c = simp (field_cut 2 c.args.s.now c.if-s
 pub returns-then-count-gt-MOST_ENTRIES-clause-result_value : goal.returns-then-count-gt-MOST_ENTRIES-clause-result_value
 unfolding schedule_reader
 returns-then-count-gt-MOST_ENTRIES-clause-result_value c =
-    simp (field_whole 2 c.args.s.now c.if-s-lt2.false, sym (two_at c.args.s.now 0), ← c.from_le_bytes-count.ensures, lt-leb _ _ c.if-count-gt-MOST_ENTRIES.true)
+    simp (field_whole 2 c.args.s.now c.if-s-lt2.false, sym (two_read c.args.s.now 0), ← c.from_le_bytes-count.ensures, lt-leb _ _ c.if-count-gt-MOST_ENTRIES.true)
 
 pub returns-in_err-entries-clause-result_value : goal.returns-in_err-entries-clause-result_value
 returns-in_err-entries-clause-result_value c =
     let s = c.args.s.now in
     rw (passed_on c.from_residual.result c.from_residual.ensures)
     (rw (between_to_end s 2 (length s) (omega arith)) at c.in_err-entries.ensures.result_value
-    ∙ entries_left s c.args.n c.if-s-lt2.false (c.from_le_bytes-count.ensures ∙ two_at s 0) c.if-count-gt-MOST_ENTRIES.false)
+    ∙ entries_left s c.args.n c.if-s-lt2.false (c.from_le_bytes-count.ensures ∙ two_read s 0) c.if-count-gt-MOST_ENTRIES.false)
 
 pub returns-clause-result_value : goal.returns-clause-result_value
 returns-clause-result_value c =
     let s = c.args.s.now in
     behind s 2 c.in_ok-entries.entries
     ∙ rw (between_to_end s 2 (length s) (omega arith)) at c.in_ok-entries.ensures.result_value
-    ∙ entries_left s c.args.n c.if-s-lt2.false (c.from_le_bytes-count.ensures ∙ two_at s 0) c.if-count-gt-MOST_ENTRIES.false
+    ∙ entries_left s c.args.n c.if-s-lt2.false (c.from_le_bytes-count.ensures ∙ two_read s 0) c.if-count-gt-MOST_ENTRIES.false

@@ -3,7 +3,7 @@ use Rattle.std.proofs.Common.{◌≡◌, ◌≤◌, ℕ, true, List, [], ◌∷�
 use Rattle.std.specs.Int.{w16, from_le_bytes}
 use Rattle.bench_file.specs.Reading.{◌>>=◌, ◌>>◌, done, rule, number}
 use Rattle.bench_file.specs.Layout.{version_known, is_mark, start_reader}
-use Rattle.bench_file.proofs.Reading.{field_whole, field_cut, field_at, field_cut_at, two_at}
+use Rattle.bench_file.proofs.Reading.{field_whole, field_cut, field_at, field_cut_at, two_read}
 use Rattle.bench_file.proofs.read_start.Goals as goal
 
 -- behind the mark the version is left to read, and behind the version its rule
@@ -14,7 +14,7 @@ module _ (s : List ℕ) (marked : is_mark (take 3 s) ≡ true) where
 
   rule_left : 5 ≤ length s → {version : ℕ} → version ≡ from_le_bytes w16 (slice_index_or s 3 0 ∷ slice_index_or s 4 0 ∷ [])
       → start_reader s ≡ (rule 3 (version_known version) >> done version) (drop 5 s)
-  rule_left h e = version_left (omega arith) ∙ simp (field_at s 3 2 h, sym (two_at s 3), ← e)
+  rule_left h e = version_left (omega arith) ∙ simp (field_at s 3 2 h, sym (two_read s 3), ← e)
 
 pub returns-then-s-lt-MARK : goal.returns-then-s-lt-MARK
 unfolding start_reader

@@ -1,9 +1,9 @@
 -- The const table is the list of the printed lines, by computation, and a row is that of its line. Assumes nothing.
 use Rattle.std.proofs.Common.{◌∙◌, ap}
 use Rattle.machine.specs.Accesses.{row_from}
-use Rattle.machine.proofs.Lines.{table_at}
+use Rattle.machine.proofs.Lines.{table_with_blank}
 use Rattle.cc_lines.specs.Lines.{L0, printed, printed_line}
 use Rattle.cc_lines.proofs.row_of.Goals as goal
 
 pub returns : goal.returns
-returns c = c.row_in.ensures ∙ ap row_from (table_at printed_line L0 printed c.args.line)
+returns c = c.row_in.ensures ∙ ap row_from (table_with_blank printed_line L0 printed c.args.line)
