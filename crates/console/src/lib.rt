@@ -1,13 +1,14 @@
 // What the programs do with standard input and output: text written, and an input's first bytes read.
 #![tactic(auto)]
 
-ghost use Rattle.std.specs.Prelude.{◌≤◌, length, IfOk};
+ghost use Rattle.std.specs.Prelude.{◌≤◌, ◌≡◌, length, IfOk};
+ghost use Rattle.std.specs.Result.{IsErr};
 
 use std::fmt::Display;
 use std::io;
 use std::io::{Read, Stdout};
 
-// Standard output, which `write!` writes to. After a write that failed nothing more is written.
+// Standard output, which `write!` writes to.
 #[derive(Drop)]
 pub struct Output {
     stdout: Stdout,
@@ -22,7 +23,10 @@ impl Output {
         }
     }
 
-    pub fn write_fmt<D: Display + Drop>(&mut self, text: D) {
+    // After a write that failed nothing more is written.
+    pub fn write_fmt<D: Display + Drop>(&mut self, text: D)
+        ensures { IsErr self.old.written → self.new ≡ self.old }
+    {
         if self.written.is_ok() {
             self.written = self.stdout.print(text);
         }
