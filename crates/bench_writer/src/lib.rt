@@ -66,6 +66,8 @@ fn judge_counts(n: u8, counts: &[u8]) -> Result<(), Refusal>
 }
 
 // The row of requests, for so many requests. That a slice holds bytes is known of a parameter, and not of a struct's field: so it is said, for the writer to know.
+// Laid down as a function of its own: within the writer its loop has too few registers.
+#[inline(never)]
 fn judge_requests(object: Kind, count: usize, requests: &[u8]) -> Result<(), Refusal>
     requires { count ≤ 16 * 255 }
     ensures outcome { passed [] result ≡ forgotten (requests_reader object count requests.now requests.now) }
